@@ -1,0 +1,4 @@
+pub mod Operation
+pub mod Rounding
+pub mod Flag
+pub mod Question

@@ -1,0 +1,42 @@
+-- The four roundings, and which of two neighbours each takes. Assumes nothing.
+use Prim.Native.Nat.{ℕ}
+use mathlib.Core.Bool.{Bool, true, false, cond, not}
+use lib.Dec.{eqb, leb}
+
+pub data Mode : Type 0 where
+  nearest up down towardZero : Mode
+
+-- question 2: is the rounding 0 to 3?
+abbrev pub isRounding : ℕ → Bool
+isRounding n = leb n 3
+
+-- 0 nearest with ties to even, 1 up, 2 down, 3 toward zero
+abbrev pub modeOf : ℕ → Mode
+modeOf n = cond (eqb n 0) nearest (cond (eqb n 1) up (cond (eqb n 2) down towardZero))
+
+-- where an exact magnitude lies between two neighbours: at the lower, or below, at or above the midpoint
+pub data Place : Type 0 where
+  exact below half above : Place
+
+-- whether the neighbour farther from zero is taken, by the sign, whether the lower neighbour is odd, and the place
+unfoldable pub away : Mode → Bool → Bool → Place → Bool
+away mode negative odd exact = false
+away nearest negative odd below = false
+away nearest negative odd half = odd
+away nearest negative odd above = true
+away up negative odd below = not negative
+away up negative odd half = not negative
+away up negative odd above = not negative
+away down negative odd below = negative
+away down negative odd half = negative
+away down negative odd above = negative
+away towardZero negative odd below = false
+away towardZero negative odd half = false
+away towardZero negative odd above = false
+
+-- the place by two bits: whether the midpoint is reached, and whether anything lies above what was reached
+abbrev pub placeOf : Bool → Bool → Place
+placeOf false false = exact
+placeOf false true = below
+placeOf true false = half
+placeOf true true = above

@@ -1,0 +1,84 @@
+-- The raw unit, step by step, over the digit size k and the number t of bits below the three digits: a significand has 3k + t bits.
+-- At k = 7 and t = 3, the numbers in brackets, these are document 01's steps. Assumes nothing.
+use Prim.Native.Nat.{ℕ, _+_, _*_, _-_, _/_, _%_, _^_}
+use mathlib.Core.Bool.{Bool, true, false}
+use lib.Dec.{leb}
+use Rattle.kinds.specs.Operation.{Op, reciprocal, root, inverseRoot}
+use Rattle.numbers.specs.Greatest.{greatest}
+
+-- x + s·y and x − s·y, the sign s being +1 where the Bool is true and −1 where it is false
+abbrev pub plus : Bool → ℕ → ℕ → ℕ
+plus true x y = x + y
+plus false x y = x - y
+
+abbrev pub less : Bool → ℕ → ℕ → ℕ
+less true x y = x - y
+less false x y = x + y
+
+-- how far apart two numbers are
+abbrev pub apart : ℕ → ℕ → ℕ
+apart a b = (a - b) + (b - a)
+
+-- 1. i is y over 2^(2k + t − 1), floored [2^16]; R is 2^(2k + 1) over i, floored [32,768]
+unfoldable pub indexOf : ℕ → ℕ → ℕ → ℕ
+indexOf k t y = y / 2 ^ (2 * k + t - 1)
+
+unfoldable pub factorOf : ℕ → ℕ → ℕ
+factorOf k i = 2 ^ (2 * k + 1) / i
+
+-- 2. d is y × R − 2^(4k + t) [2^31]: here u is y × R. Whether its sign s is +1
+unfoldable pub signOf : ℕ → ℕ → ℕ → Bool
+signOf k t u = leb (2 ^ (4 * k + t)) u
+
+-- a is |d| over 2^t, floored [8]
+unfoldable pub reducedOf : ℕ → ℕ → ℕ → ℕ
+reducedOf k t u = apart u (2 ^ (4 * k + t)) / 2 ^ t
+
+-- the k-bit digits of a, highest first, and h, which is a2² over 2^k, floored
+abbrev pub digit2 : ℕ → ℕ → ℕ
+digit2 k a = a / 2 ^ (2 * k)
+
+abbrev pub digit3 : ℕ → ℕ → ℕ
+digit3 k a = a / 2 ^ k % 2 ^ k
+
+abbrev pub digit4 : ℕ → ℕ → ℕ
+digit4 k a = a % 2 ^ k
+
+abbrev pub carryOf : ℕ → ℕ → ℕ
+carryOf k a2 = a2 * a2 / 2 ^ k
+
+-- 3. the sum of each series, over the sign s, a, a2, a3 and h, before its division
+abbrev pub sumOver : ℕ → Op → Bool → ℕ → ℕ → ℕ → ℕ → ℕ
+sumOver k reciprocal s a a2 a3 h =
+    less s (2 ^ k * (less s (2 ^ (4 * k)) a + a2 * a2) + 2 * a2 * a3) (h * a2)
+sumOver k root s a a2 a3 h =
+    plus s (plus s (16 * 2 ^ k * 2 ^ (4 * k)) (8 * 2 ^ k * a) - 2 * 2 ^ k * a2 * a2 - 4 * a2 * a3) (h * a2)
+sumOver k inverseRoot s a a2 a3 h =
+    less s (less s (16 * 2 ^ k * 2 ^ (4 * k)) (8 * 2 ^ k * a) + 6 * 2 ^ k * a2 * a2 + 12 * a2 * a3) (5 * h * a2)
+
+unfoldable pub sumOf : ℕ → Op → Bool → ℕ → ℕ
+sumOf k op s a = sumOver k op s a (digit2 k a) (digit3 k a) (carryOf k (digit2 k a))
+
+-- what it is divided by [128 and 2,048]
+abbrev pub divisorOf : ℕ → Op → ℕ
+divisorOf k reciprocal = 2 ^ k
+divisorOf k root = 16 * 2 ^ k
+divisorOf k inverseRoot = 16 * 2 ^ k
+
+-- the series b
+abbrev pub seriesOf : ℕ → Op → Bool → ℕ → ℕ
+seriesOf k op s a = sumOf k op s a / divisorOf k op
+
+-- 4. M by R and the parity p. Root: the largest whole w with w² × R ≤ 2^(9k + 1 + p) [64 + p];
+-- inverse root: the largest whole w with w² × 2^(k + 1 + p) ≤ R × 2^(8k) [8 + p, 56]
+unfoldable pub multiplierOf : ℕ → Op → ℕ → ℕ → ℕ
+multiplierOf k reciprocal r p = r * 2 ^ (3 * k - 1)
+multiplierOf k root r p = greatest (4 * k + 2) (λ (w : ℕ). leb (w * w * r) (2 ^ (9 * k + 1 + p)))
+multiplierOf k inverseRoot r p = greatest (4 * k + 2) (λ (w : ℕ). leb (w * w * 2 ^ (k + 1 + p)) (r * 2 ^ (8 * k)))
+
+-- 5. g is M × b over 2^(4k), floored [2^28]
+unfoldable pub rawOf : ℕ → ℕ → Op → ℕ → ℕ → ℕ
+rawOf k t op y p =
+    let r = factorOf k (indexOf k t y) in
+    let u = y * r in
+    multiplierOf k op r p * seriesOf k op (signOf k t u) (reducedOf k t u) / 2 ^ (4 * k)
