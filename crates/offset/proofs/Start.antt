@@ -99,7 +99,7 @@ module _ (n q : ℕ) (sizes : Sizes n q) where
   start-product-fits t h = omega (arith, limit-fits .fits)
 
   -- 2n over √q is at most 25,000
-  start-most : (t : ℕ) → t * t * q ≤ 4 * (n * n) → t ≤ 25000
+  pub start-most : (t : ℕ) → t * t * q ≤ 4 * (n * n) → t ≤ 25000
   start-most t h =
       by-cases (decLt 25000 t)
       (λ l.

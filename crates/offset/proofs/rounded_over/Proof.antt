@@ -1,4 +1,5 @@
 use borrow.Author.Needs.{needs}
+use Rattle.offset.proofs.Places.{offset-fits, offset-sizes, rounded-is, radius-most}
 use Rattle.offset.proofs.rounded_over.Statement.{statement}
 use Rattle.offset.proofs.rounded_over.Tie as tie
 use Rattle.offset.proofs.rounded_over.Reads as reads
@@ -8,11 +9,11 @@ use Rattle.offset.proofs.rounded.Reads as rounded-reads
 
 -- src/lib.rt:29:32
 mul-doubled-over : tie.Need-mul-doubled-over
-mul-doubled-over c = ?
+mul-doubled-over c = search offset-fits
 
 -- src/lib.rt:29:9
 doubled-over-requires : tie.Need-doubled-over-requires
-doubled-over-requires c κs = ?
+doubled-over-requires c κs = (search offset-sizes, search needs)
 
 -- src/lib.rt:30:5
 rounded-requires : tie.Need-rounded-requires
@@ -20,7 +21,7 @@ rounded-requires c κs = search needs
 
 -- src/lib.rt:25:1
 returns : tie.Need-returns
-returns c = ?
+returns c = (search (rounded-is, offset-sizes), search radius-most)
 
 pub rounded-over-spec : {M : Type 1} → statement M
 rounded-over-spec =
