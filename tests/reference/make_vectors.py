@@ -24,6 +24,7 @@ import itertools
 import random
 import struct
 import sys
+from fractions import Fraction
 from pathlib import Path
 
 sys.dont_write_bytecode = True
@@ -102,7 +103,7 @@ SIGN = 0x80000000
 
 def operand(significand, exponent):
     """The pattern of significand * 2**exponent, which must be a number."""
-    wanted = significand * plate.Fraction(2)**exponent
+    wanted = significand * Fraction(2)**exponent
     low, high = 0, plate.POSITIVE_INFINITY
     while high - low > 1:
         middle = (low + high) // 2
