@@ -12,11 +12,9 @@ use lib.Dec.{T, ltb, ltb→lt, lt→ltb, leb→le, le→leb}
 use lib.Pow.{pow-pos, pow-add, pow-mono, high, low, split, ones-lt}
 use Rattle.kinds.specs.Operation.{Op, reciprocal, root, inverseRoot}
 use Rattle.numbers.proofs.Greatest.{Antitone, greatest-found, greatest-is}
+use Rattle.numbers.proofs.Squares.{square-rising}
 use Rattle.ieee.specs.Format.{Format, unitOf, signBit, infinity, scaled, magnitudeOf}
 use Rattle.ieee.specs.Rounded.{side, limit, fits, lowerOf}
-
-square-rising : {v w : ℕ} → v < w → v * v < w * w
-square-rising {v} {w} h = omega (arith, mul-le-mul h h)
 
 module _ (f : Format) where
   -- the magnitude of the exponent field e and the fraction x
