@@ -15,6 +15,22 @@ pub struct Inverse {
     pub shift: u32,
 }
 
+// q is brought to a significand of 24 bits and a parity, p of its exponent; the raw inverse root of those is lowered by its
+// distance and by what the significand leaves off.
+pub fn inverse_of(q: u64) -> Inverse
+    requires { ⌜ (0 < q) × (q < 2 ^ 35) ⌝ }
+    ensures { λ r. ⌜ InverseOf q (r .low) (r .shift) ⌝ }
+{
+    let zeros = u64::leading_zeros(q);
+    let exponent = 63 - zeros;
+    let y = ((q << zeros) >> 40) as u32;
+    let g = raw::inverse_root(y, exponent % 2);
+    Inverse {
+        low: (g as u64) - 24,
+        shift: 27 + exponent / 2,
+    }
+}
+
 // 2n over √q, floored, and what is left of 4·n².
 struct Doubled {
     floor: u64,
