@@ -13,6 +13,7 @@ use mir.Val.{Fits}
 use Rattle.numbers.proofs.Ring.{E, v, #, _⊕_, _⊗_, H, _⊙_⊑_, nlin, nlin×}
 use Rattle.kinds.specs.Operation.{inverseRoot}
 use Rattle.significand.specs.Steps.{rawOf}
+use Rattle.significand.specs.Distance.{Within}
 use Rattle.offset.specs.Inverse.{InverseOf}
 
 -- the place of the highest bit, counted from 0
@@ -92,13 +93,9 @@ halves j =
     let e : j ≡ h + h + j % 2 = omega (arith, div-add-mod j 2) in
     ap (λ (m : ℕ). 2 ^ m) e ∙ pow-add 2 (h + h) (j % 2) ∙ ap (λ (x : ℕ). x * 2 ^ (j % 2)) (pow-add 2 h h)
 
--- the raw answer g of a significand y and a parity, P being 1 or 2 with it: it lies within 8 of 2^28 over √(y · P / 2^23)
-pub record Within8 (y P g : ℕ) : Type 0 where
-  pub low : (g - 8) * (g - 8) * (y * P) < 2 ^ 79
-  pub high : 2 ^ 79 < (g + 8) * (g + 8) * (y * P)
-
+-- what an answer near 2^28 over √(y · P / 2^23) is at least and at most, P being 1 or 2
 module _ (y P : ℕ) (y-least : 2 ^ 23 ≤ y) (y-most : y < 2 ^ 24) (P-least : 1 ≤ P) (P-most : P ≤ 2) (x : ℕ) where
-  answer-least : 2 ^ 79 < x * x * (y * P) → 2 ^ 27 ≤ x
+  answer-least : 2 ^ 79 < x * x * y * P → 2 ^ 27 ≤ x
   answer-least above =
       by-cases (decLt x (2 ^ 27))
       (λ l.
@@ -107,7 +104,7 @@ module _ (y P : ℕ) (y-least : 2 ^ 23 ≤ y) (y-most : y < 2 ^ 24) (P-least : 1
       omega (arith, mul-le-mul (mul-le-mul s s) t))
       (λ l. omega arith)
 
-  answer-most : x * x * (y * P) < 2 ^ 79 → x < 2 ^ 28
+  answer-most : x * x * y * P < 2 ^ 79 → x < 2 ^ 28
   answer-most below =
       by-cases (decLt x (2 ^ 28)) (λ l. l)
       (λ l.
@@ -135,22 +132,22 @@ module _ (q y P h low : ℕ) where
   abbrev ρ : List ℕ
   ρ = q ∷ y ∷ P ∷ h ∷ low ∷ []
 
-  inverse-below : low < 2 ^ 28 → 2 ^ 23 ≤ y → (low + 16) * (low + 16) * (y * P) < 2 ^ 79 → q * 2 ^ 23 ≤ (y + 1) * (h * h * P)
+  inverse-below : low < 2 ^ 28 → 2 ^ 23 ≤ y → (low + 16) * (low + 16) * y * P < 2 ^ 79 → q * 2 ^ 23 ≤ (y + 1) * (h * h * P)
       → low * low * q ≤ 2 ^ 56 * (h * h)
   inverse-below most least below power =
       nlin× ρ (# 8388608)
       (vl ⊗ vl ⊙ vq ⊗ # 8388608 ⊑ (vy ⊕ # 1) ⊗ (vh ⊗ vh ⊗ vp)
-      ∷ vh ⊗ vh ⊙ (vl ⊕ # 16) ⊗ (vl ⊕ # 16) ⊗ (vy ⊗ vp) ⊑ # 604462909807314587353088
+      ∷ vh ⊗ vh ⊙ (vl ⊕ # 16) ⊗ (vl ⊕ # 16) ⊗ vy ⊗ vp ⊑ # 604462909807314587353088
       ∷ vl ⊗ vh ⊗ vh ⊗ vp ⊙ vl ⊑ # 32 ⊗ vy
       ∷ [])
       (vl ⊗ vl ⊗ vq) (# 72057594037927936 ⊗ (vh ⊗ vh)) tt (omega arith) (omega arith)
 
-  inverse-above : 2 ^ 79 < (low + 32) * (low + 32) * (y * P) → y * (h * h * P) ≤ q * 2 ^ 23
+  inverse-above : 2 ^ 79 < (low + 32) * (low + 32) * y * P → y * (h * h * P) ≤ q * 2 ^ 23
       → 2 ^ 56 * (h * h) ≤ (low + 32) * (low + 32) * q
   inverse-above above power =
       nlin× ρ (# 8388608)
       ((vl ⊕ # 32) ⊗ (vl ⊕ # 32) ⊙ vy ⊗ (vh ⊗ vh ⊗ vp) ⊑ vq ⊗ # 8388608
-      ∷ vh ⊗ vh ⊙ # 604462909807314587353088 ⊑ (vl ⊕ # 32) ⊗ (vl ⊕ # 32) ⊗ (vy ⊗ vp)
+      ∷ vh ⊗ vh ⊙ # 604462909807314587353088 ⊑ (vl ⊕ # 32) ⊗ (vl ⊕ # 32) ⊗ vy ⊗ vp
       ∷ [])
       (# 72057594037927936 ⊗ (vh ⊗ vh)) ((vl ⊕ # 32) ⊗ (vl ⊕ # 32) ⊗ vq) tt (omega arith) (omega arith)
 
@@ -160,7 +157,7 @@ parity-most j = omega (arith, mod-lt j {m = 2} (omega arith))
 parity-power : (p : ℕ) → p ≤ 1 → (1 ≤ 2 ^ p) × (2 ^ p ≤ 2)
 parity-power p h = (pow-pos p, pow-le-pow-right {n = 2} (omega arith) h)
 
-module _ (q : ℕ) (pos : 0 < q) (small : q < 2 ^ 35) (g : ℕ) (near : Within8 (significandOf q) (2 ^ (exponentOf q % 2)) g) where
+module _ (q : ℕ) (pos : 0 < q) (small : q < 2 ^ 35) (g : ℕ) (near : Within inverseRoot 7 3 (significandOf q) (exponentOf q % 2) 8 g) where
   inverse-near : (24 ≤ g) × InverseOf q (g - 24) (27 + exponentOf q / 2)
   inverse-near =
       let y : ℕ = significandOf q in
@@ -171,12 +168,12 @@ module _ (q : ℕ) (pos : 0 < q) (small : q < 2 ^ 35) (g : ℕ) (near : Within8 
       let y1 = significand-most q pos small in
       let P0 = parity-power (j % 2) (parity-most j) .0 in
       let P1 = parity-power (j % 2) (parity-most j) .1 in
-      let least = answer-least y P y0 y1 P0 P1 (g + 8) (near .high) in
-      let most = answer-most y P y0 y1 P0 P1 (g - 8) (near .low) in
+      let least = answer-least y P y0 y1 P0 P1 (g + 8) (near .over) in
+      let most = answer-most y P y0 y1 P0 P1 (g - 8) (near .under) in
       let e8 : g - 8 ≡ g - 24 + 16 = omega arith in
       let e32 : g + 8 ≡ g - 24 + 32 = omega arith in
-      let below : (g - 24 + 16) * (g - 24 + 16) * (y * P) < 2 ^ 79 = subst (λ (x : ℕ). x * x * (y * P) < 2 ^ 79) e8 (near .low) in
-      let above : 2 ^ 79 < (g - 24 + 32) * (g - 24 + 32) * (y * P) = subst (λ (x : ℕ). 2 ^ 79 < x * x * (y * P)) e32 (near .high) in
+      let below : (g - 24 + 16) * (g - 24 + 16) * y * P < 2 ^ 79 = subst (λ (x : ℕ). x * x * y * P < 2 ^ 79) e8 (near .under) in
+      let above : 2 ^ 79 < (g - 24 + 32) * (g - 24 + 32) * y * P = subst (λ (x : ℕ). 2 ^ 79 < x * x * y * P) e32 (near .over) in
       let power-is : 2 ^ (27 + j / 2) ≡ 2 ^ 27 * h = pow-add 2 27 (j / 2) in
       let squared : 4 * (2 ^ (27 + j / 2) * 2 ^ (27 + j / 2)) ≡ 2 ^ 56 * (h * h) = rw power-is (omega arith) in
       (
@@ -191,7 +188,7 @@ module _ (q : ℕ) (pos : 0 < q) (small : q < 2 ^ 35) (g : ℕ) (near : Within8 
       )
 
 module _ (q : ℕ) (pos : 0 < q) (small : q < 2 ^ 35) (g : ℕ) (raw : g ≡ rawOf 7 3 inverseRoot (significandOf q) (exponentOf q % 2)) where
-  near : Within8 (significandOf q) (2 ^ (exponentOf q % 2)) g
+  near : Within inverseRoot 7 3 (significandOf q) (exponentOf q % 2) 8 g
   near = ?
 
   pub answer-above : 24 ≤ g
