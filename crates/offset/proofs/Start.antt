@@ -11,7 +11,7 @@ use lib.Pow.{pow-pos}
 use mir.Syntax.{w64}
 use mir.Val.{Fits}
 use Rattle.numbers.proofs.Ring.{E, v, #, _⊕_, _⊗_, H, _⊙_⊑_, nlin, nlin×}
-use Rattle.offset.specs.Inverse.{InverseOf, DoubledOver, Ranges, Sizes}
+use Rattle.offset.specs.Inverse.{InverseOf, DoubledOver, Sizes, radiusMost}
 
 abbrev vn : E
 vn = v 0
@@ -41,7 +41,7 @@ module _ (n q low w t : ℕ) where
   ρ = n ∷ q ∷ low ∷ w ∷ t ∷ []
 
   -- 32 units of low make less than one of t
-  fine : 2 ^ 26 ≤ low → low * low * q ≤ 4 * (w * w) → n * n ≤ 156250000 * q → 32 * n ≤ w
+  fine : 2 ^ 26 ≤ low → low * low * q ≤ 4 * (w * w) → n * n ≤ radiusMost * radiusMost * q → 32 * n ≤ w
   fine least below small =
       by-cases (decLt w (32 * n))
       (λ h.
@@ -49,7 +49,7 @@ module _ (n q low w t : ℕ) where
       nlin ρ
       (# 4 ⊗ (vw ⊕ # 32 ⊗ vn) ⊙ vw ⊕ # 1 ⊑ # 32 ⊗ vn
       ∷ # 1 ⊙ vw ⊕ # 1 ⊑ # 32 ⊗ vn
-      ∷ # 4096 ⊙ vn ⊗ vn ⊑ # 156250000 ⊗ vq
+      ∷ # 4096 ⊙ vn ⊗ vn ⊑ # (radiusMost * radiusMost) ⊗ vq
       ∷ (vl ⊕ # 67108864) ⊗ vq ⊙ # 67108864 ⊑ vl
       ∷ # 1 ⊙ vl ⊗ vl ⊗ vq ⊑ # 4 ⊗ (vw ⊗ vw)
       ∷ [])
@@ -98,16 +98,16 @@ module _ (n q : ℕ) (sizes : Sizes n q) where
   pub start-product-fits : (t : ℕ) → t * t * q ≤ 4 * (n * n) → Fits w64 (t * t * q)
   start-product-fits t h = omega (arith, limit-fits .fits)
 
-  -- 2n over √q is at most 25,000
-  pub start-most : (t : ℕ) → t * t * q ≤ 4 * (n * n) → t ≤ 25000
+  -- 2n over √q is at most twice the largest radius
+  pub start-most : (t : ℕ) → t * t * q ≤ 4 * (n * n) → t ≤ 2 * radiusMost
   start-most t h =
-      by-cases (decLt 25000 t)
+      by-cases (decLt (2 * radiusMost) t)
       (λ l.
       let no : 1 ≤ 0 =
       nlin (n ∷ q ∷ t ∷ [])
-      ((v 2 ⊕ # 25000) ⊗ v 1 ⊙ # 25001 ⊑ v 2
+      ((v 2 ⊕ # (2 * radiusMost)) ⊗ v 1 ⊙ # (2 * radiusMost + 1) ⊑ v 2
       ∷ # 1 ⊙ v 2 ⊗ v 2 ⊗ v 1 ⊑ # 4 ⊗ (v 0 ⊗ v 0)
-      ∷ # 4 ⊙ v 0 ⊗ v 0 ⊑ # 156250000 ⊗ v 1
+      ∷ # 4 ⊙ v 0 ⊗ v 0 ⊑ # (radiusMost * radiusMost) ⊗ v 1
       ∷ # 1 ⊙ # 1 ⊑ v 1
       ∷ [])
       (# 1) (# 0) tt (omega arith) in
@@ -122,7 +122,7 @@ module _ (n q : ℕ) (sizes : Sizes n q) where
 
   pub next-fits : (t : ℕ) → t * t * q ≤ 4 * (n * n) → Fits w64 ((2 * t + 1) * q)
   next-fits t h =
-      let odd : 2 * t + 1 ≤ 50001 = omega (arith, start-most t h) in
+      let odd : 2 * t + 1 ≤ 4 * radiusMost + 1 = omega (arith, start-most t h) in
       omega (arith, mul-le-mul odd (sizes .most))
 
   pub more-fits : (t : ℕ) → t * t * q ≤ 4 * (n * n) → Fits w64 (t + 1)
