@@ -53,7 +53,7 @@ fn doubled_over(n: u64, q: u64, inverse: Inverse) -> Doubled
 {
     let start = (n * inverse.low) >> inverse.shift;
     let left = remainder(n, q, start);
-    let next = (2 * start + 1) * q;
+    let next = 2 * (start * q) + q;
     if next <= left {
         Doubled {
             floor: start + 1,
@@ -69,7 +69,7 @@ fn remainder(n: u64, q: u64, t: u64) -> u64
     requires { ⌜ Sizes n q × (t * t * q ≤ 4 * (n * n)) ⌝ }
     ensures { λ r. ⌜ t * t * q + r ≡ 4 * (n * n) ⌝ }
 {
-    4 * (n * n) - t * t * q
+    4 * (n * n) - t * q * t
 }
 
 // The last bit of the doubled floor is the guard bit, and the remainder is the sticky one.

@@ -1,11 +1,11 @@
 -- `offset::doubled_over` meets its contract: the start is at most one too small, so that one step is enough. Assumes nothing.
 use borrow.Author.Needs.{needs}
-use Rattle.offset.proofs.Start.{product-fits, start-below, start-above, twice-fits, odd-fits, next-fits, more-fits, stepped}
+use Rattle.offset.proofs.Start.{start-fits, start-below, start-above, product-fits, twice-fits, next-fits, more-fits, stepped}
 use Rattle.offset.proofs.doubled_over.Statement.{statement}
 use Rattle.offset.proofs.doubled_over.Tie as tie
 
 mul-start : tie.Need-mul-start
-mul-start c = search product-fits
+mul-start c = search start-fits
 
 cast-start : tie.Need-cast-start
 cast-start c = search needs
@@ -17,13 +17,13 @@ remainder-requires : tie.Need-remainder-requires
 remainder-requires c κs = (search needs, search start-below)
 
 mul-next : tie.Need-mul-next
-mul-next c = search (twice-fits, start-below)
-
-add-next : tie.Need-add-next
-add-next c = search (odd-fits, start-below)
+mul-next c = search (product-fits, start-below)
 
 mul-next-2 : tie.Need-mul-next-2
-mul-next-2 c = search (next-fits, start-below)
+mul-next-2 c = search (twice-fits, start-below)
+
+add-next : tie.Need-add-next
+add-next c = search (next-fits, start-below)
 
 add-t11 : tie.Need-add-t11
 add-t11 c = search (more-fits, start-below)
@@ -43,8 +43,8 @@ doubled-over-spec =
     shr-start
     remainder-requires
     mul-next
-    add-next
     mul-next-2
+    add-next
     add-t11
     returns
     returns-2)

@@ -1,20 +1,20 @@
 -- `offset::remainder` meets its contract: the products fit, and the difference is not below zero. Assumes nothing.
 use borrow.Author.Needs.{needs}
-use Rattle.offset.proofs.Start.{square-fits, limit-fits, start-square-fits, start-product-fits}
+use Rattle.offset.proofs.Start.{limit-fits, product-fits, square-fits}
 use Rattle.offset.proofs.remainder.Statement.{statement}
 use Rattle.offset.proofs.remainder.Tie as tie
 
 mul-result : tie.Need-mul-result
-mul-result c = search square-fits
+mul-result c = search needs
 
 mul-result-2 : tie.Need-mul-result-2
 mul-result-2 c = search limit-fits
 
 mul-result-3 : tie.Need-mul-result-3
-mul-result-3 c = search start-square-fits
+mul-result-3 c = search product-fits
 
 mul-result-4 : tie.Need-mul-result-4
-mul-result-4 c = search start-product-fits
+mul-result-4 c = search square-fits
 
 sub-result : tie.Need-sub-result
 sub-result c = search needs
