@@ -6,7 +6,7 @@ use mathlib.Core.List.{List, [], _∷_}
 use Prim.Native.Nat.{ℕ, _+_, _*_, _-_, _≤_, _<_}
 use native.Mathlib.Omega.{arith}
 use Rattle.kinds.specs.Operation.{Op, reciprocal, root, inverseRoot}
-use Rattle.numbers.proofs.Ring.{E, v, #, _⊕_, _⊗_, ev, nf, H, _⊙_⊑_, lows, highs, Hold, Left, nlin×, prove}
+use Rattle.numbers.proofs.Ring.{E, v, #, _⊕_, _⊗_, ev, nf, H, _⊙_⊑_, lows, highs, Hold, Left, nlin, nlin×, prove}
 
 -- the variables: Z, the digits a2, a3, a4 of a, the carry h, the series b, W, which is N + a or N − a − 1, and the sum S
 abbrev pub z : E
@@ -182,3 +182,11 @@ module _ (Z a2 a3 a4 h b W S : ℕ) where
     scaled-least =
         by-signs Z a2 a3 a4 h b W S (F .digits) sign (# 1) (λ (σ : Bool). # 1 ⊙ n ⊕ rise σ ⊑ w ⊕ fall σ ∷ []) n (w ⊕ margin) tt tt (omega arith)
         (omega arith)
+
+-- 2 Z³ is at most a 64th of N
+pub margin-small : (Z : ℕ) → 128 ≤ Z → 64 * (2 * Z * Z * Z) ≤ Z * Z * Z * Z
+margin-small Z big = nlin (Z ∷ []) (z ⊗ z ⊗ z ⊙ # 128 ⊑ z ∷ []) (# 64 ⊗ (# 2 ⊗ z ⊗ z ⊗ z)) n tt (omega arith)
+
+-- N is 128 or more
+pub whole-big : (Z : ℕ) → 128 ≤ Z → 128 ≤ Z * Z * Z * Z
+whole-big Z big = nlin (Z ∷ []) (z ⊗ z ⊗ z ⊕ z ⊗ z ⊕ z ⊕ # 1 ⊙ # 128 ⊑ z ∷ []) (# 128) n tt (omega arith)
