@@ -79,7 +79,7 @@ Z³ = Z′ ⊗ Z′ ⊗ Z′
 module _ (Z N T P X y R M b g : ℕ) (K : Setting Z N T P X y R) (F : Floored N M b g) where
   -- the root: (M − 1)² R < 2 Z N² X < (M + 1)² R
   module _ (low : R * ((M - 1) * (M - 1)) < 2 * Z * N * N * X) (high : 2 * Z * N * N * X < R * ((M + 1) * (M + 1))) where
-    root-multiplier : M ≤ 2 * N
+    pub root-multiplier : M ≤ 2 * N
     root-multiplier =
         let i : 2 * Z * N * N * X ≤ R * (2 * N * (2 * N)) =
         omega (arith, mul-le-mul-left (2 * Z * N * N) (K .parity-most), mul-le-mul-right (4 * N * N) (K .factor-least)) in
@@ -90,7 +90,7 @@ module _ (Z N T P X y R M b g : ℕ) (K : Setting Z N T P X y R) (F : Floored N 
       positive : 0 < N * (y * R)
       positive = mul-pos (omega arith) (mul-pos (K .significand) (omega arith))
 
-      root-under : (g - 7) * (g - 7) * P < y * (N * N * X)
+      pub root-under : (g - 7) * (g - 7) * P < y * (N * N * X)
       root-under =
           let e : ℕ = g - 7 in
           cancel-lt (2 * R * N * N) (Z * Z * Z) (mul-pos (mul-pos (K .radix) (K .radix)) (K .radix))
@@ -98,7 +98,7 @@ module _ (Z N T P X y R M b g : ℕ) (K : Setting Z N T P X y R) (F : Floored N 
           (omega (arith, ap (λ (m : ℕ). 2 * y * R * N * N * N * X * m) (K .whole)))
           (squares-below T R (b - 2) (M - 1) (C .high) low (product-under N M b g (K .big) F (C .most) root-multiplier) positive)
 
-      root-over : y * (N * N * X) < (g + 7) * (g + 7) * P
+      pub root-over : y * (N * N * X) < (g + 7) * (g + 7) * P
       root-over =
           let e : ℕ = g + 7 in
           cancel-lt (2 * R * N * N) (Z * Z * Z) (mul-pos (mul-pos (K .radix) (K .radix)) (K .radix))
@@ -108,7 +108,7 @@ module _ (Z N T P X y R M b g : ℕ) (K : Setting Z N T P X y R) (F : Floored N 
 
   -- the inverse root: (M − 1)² 2 Z X < R N² < (M + 1)² 2 Z X
   module _ (low : 2 * Z * X * ((M - 1) * (M - 1)) < R * (N * N)) (high : R * (N * N) < 2 * Z * X * ((M + 1) * (M + 1))) where
-    inverse-multiplier : M ≤ N
+    pub inverse-multiplier : M ≤ N
     inverse-multiplier =
         let m : ℕ = (M - 1) * (M - 1) in
         let i : 2 * Z * m ≤ 2 * Z * X * m = omega (arith, mul-le-mul-left (2 * Z * m) (K .parity-least)) in
@@ -124,14 +124,14 @@ module _ (Z N T P X y R M b g : ℕ) (K : Setting Z N T P X y R) (F : Floored N 
       exact =
           omega (arith, ap (λ (m : ℕ). Z * R * N * N * N * N * m) (K .half), ap (λ (m : ℕ). R * N * N * N * N * T * m) (K .whole))
 
-      inverse-under : (g - 7) * (g - 7) * (y * X) < N * N * P
+      pub inverse-under : (g - 7) * (g - 7) * (y * X) < N * N * P
       inverse-under =
           let e : ℕ = g - 7 in
           cancel-lt (2 * Z * R * N * N) 1 (omega arith) (omega arith) (omega (arith, exact))
           (squares-below (y * R) (2 * Z * X) (b - 2) (M - 1) (C .high) low
           (product-under N M b g (K .big) F (C .most) (omega (arith, inverse-multiplier))) exact-positive)
 
-      inverse-over : N * N * P < (g + 7) * (g + 7) * (y * X)
+      pub inverse-over : N * N * P < (g + 7) * (g + 7) * (y * X)
       inverse-over =
           cancel-lt (8 * Z * R * N * N) 1 (omega arith) (omega (arith, exact)) (omega arith)
           (squares-above (y * R) (2 * Z * X) (2 * b + 9) (M + 1) (C .low) high
@@ -139,11 +139,11 @@ module _ (Z N T P X y R M b g : ℕ) (K : Setting Z N T P X y R) (F : Floored N 
 
   -- the reciprocal: 2 M is R Z³
   module _ (exactly : 2 * M ≡ R * (Z * Z * Z)) where
-    recip-multiplier : M ≤ N
+    pub recip-multiplier : M ≤ N
     recip-multiplier = omega (arith, mul-le-mul-right (Z * Z * Z) (K .factor-most), K .whole)
 
     module _ (C : Close reciprocal N T (y * R) b) where
-      recip-under : g * y ≤ N * P + 6 * y
+      pub recip-under : g * y ≤ N * P + 6 * y
       recip-under =
           nlin× (Z ∷ N ∷ T ∷ P ∷ y ∷ R ∷ M ∷ b ∷ g ∷ []) (# 2 ⊗ N′)
           (# 2 ⊗ y′ ⊙ g′ ⊗ N′ ⊑ M′ ⊗ b′
@@ -155,7 +155,7 @@ module _ (Z N T P X y R M b g : ℕ) (K : Setting Z N T P X y R) (F : Floored N 
           ∷ [])
           (g′ ⊗ y′) (N′ ⊗ P′ ⊕ # 6 ⊗ y′) tt (omega arith) (omega (arith, recip-multiplier))
 
-      recip-over : N * P < (g + 12) * y
+      pub recip-over : N * P < (g + 12) * y
       recip-over =
           let i : 2 * N * (N * P) + 2 * y ≤ 2 * N * ((g + 12) * y) =
           nlin (Z ∷ N ∷ T ∷ P ∷ y ∷ R ∷ M ∷ b ∷ g ∷ [])
