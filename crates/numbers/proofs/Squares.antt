@@ -2,10 +2,13 @@
 use mathlib.Core.Path.{_≡_}
 use mathlib.Core.List.{[], _∷_}
 use mathlib.Core.Logic.{by-cases}
-use Prim.Native.Nat.{ℕ, _+_, _*_, _≤_, _<_}
-use native.Mathlib.Nat.{mul-le-mul, mul-le-mul-left, mul-lt-mul-of-pos-left, lt-of-mul-lt-mul-left, mul-pos}
+use Prim.Native.Nat.{ℕ, zero, suc, _+_, _*_, _-_, _^_, _≤_, _<_}
+use native.Mathlib.Nat.{mul-le-mul, mul-le-mul-left, mul-le-mul-right, mul-lt-mul-of-pos-left, lt-of-mul-lt-mul-left, mul-pos}
 use native.Mathlib.Decide.{decLt}
 use native.Mathlib.Omega.{arith}
+use lib.Dec.{leb→le, le→leb}
+use Rattle.numbers.specs.Greatest.{greatest}
+use Rattle.numbers.proofs.Greatest.{Found, greatest-found, squareFits}
 use Rattle.numbers.proofs.Ring.{v, _⊗_, poly}
 
 -- the smaller square is that of the smaller number
@@ -33,3 +36,30 @@ squares-above a c x y {b} {d} {e} h l f p =
     poly (a ∷ c ∷ x ∷ y ∷ []) (v 0 ⊗ v 1 ⊗ (v 2 ⊗ v 3 ⊗ (v 2 ⊗ v 3))) (v 0 ⊗ (v 2 ⊗ v 2) ⊗ (v 1 ⊗ (v 3 ⊗ v 3))) tt tt in
     let m : b * (c * (y * y)) ≤ a * (x * x) * (c * (y * y)) = mul-le-mul h (omega arith) in
     omega (arith, i, j, m, mul-lt-mul-of-pos-left l p)
+
+-- g is the greatest number whose square, times a, is at most c
+pub record SquareRoot (a c g : ℕ) : Type 0 where
+  pub fits : g * g * a ≤ c
+  pub next : c < (g + 1) * (g + 1) * a
+
+-- what `greatest` finds is that, where some number of its n bits is too large
+pub greatest-square : (n a c x : ℕ) → x < 2 ^ n → c < x * x * a → SquareRoot a c (greatest n (squareFits a c))
+greatest-square n a c x h l =
+    let g : ℕ = greatest n (squareFits a c) in
+    let f : Found (squareFits a c) 0 (2 ^ n) g = greatest-found n (squareFits a c) (le→leb (0 * 0 * a) c (omega arith)) in
+    let fits : g * g * a ≤ c = leb→le (g * g * a) c (f .passes) in
+    let less : g < x =
+    by-cases (decLt g x) (λ i. i) (λ i. absurd (omega (arith, mul-le-mul-right a (mul-le-mul {n₁ = x} {m₁ = x} {n₂ = g} {m₂ = g} (omega arith) (omega arith))))) in
+    record {
+      fits = fits;
+      next =
+          by-cases (decLt c ((g + 1) * (g + 1) * a)) (λ i. i)
+          (λ i. absurd (f .last (omega arith) (le→leb (suc g * suc g * a) c (omega arith))));
+    }
+
+-- so it is less than one away from the exact root
+pub square-low : (a c g : ℕ) → 0 < a → 0 < c → g * g * a ≤ c → (g - 1) * (g - 1) * a < c
+square-low a c zero p q h = omega arith
+square-low a c (suc g) p q h =
+    let e : suc g - 1 ≡ g = omega arith in
+    rw e (omega arith)

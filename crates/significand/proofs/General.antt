@@ -10,8 +10,8 @@ use Rattle.kinds.specs.Operation.{Op, reciprocal, root, inverseRoot}
 use Rattle.numbers.proofs.Powers.{power-of}
 use Rattle.significand.specs.Distance.{Significand, Under, Over, Within}
 use Rattle.significand.proofs.Close.{Close}
-use Rattle.significand.proofs.Units.{Setting, Floored, root-under, root-over, inverse-under, inverse-over, recip-under, recip-over}
-use Rattle.significand.proofs.Scale.{setting, whole-least, quotient-scale, square-scale, over-least}
+use Rattle.significand.proofs.Units.{Setting, Floored, root-multiplier, inverse-multiplier, recip-multiplier, root-under, root-over, inverse-under, inverse-over, recip-under, recip-over}
+use Rattle.significand.proofs.Scale.{setting, whole-is, whole-least, parity-most, quotient-scale, square-scale, root-power, inverse-power, whole-square, over-least}
 
 -- M is the exact M (reciprocal), or less than one unit away from it: √(2^(9k + 1 + p) / r), √(r 2^(8k) / 2^(k + 1 + p))
 pub record NearRoot (k r p M : ℕ) : Type 0 where
@@ -33,47 +33,25 @@ reachOf reciprocal = 12
 reachOf root = 7
 reachOf inverseRoot = 7
 
-module _ (k t y r p M b : ℕ) (h : 7 ≤ k) (e : p ≤ 1) (Y : Significand k t y) (least : 2 ^ k ≤ r) (most : r ≤ 2 ^ (k + 1)) where
+module _ (k r p M : ℕ) (h : 7 ≤ k) where
   abbrev Z : ℕ
   Z = 2 ^ k
 
   abbrev N : ℕ
   N = 2 ^ (4 * k)
 
-  abbrev m : ℕ
-  m = 3 * k + t - 1
-
-  abbrev g : ℕ
-  g = M * b / 2 ^ (4 * k)
-
-  K : Setting Z N (2 ^ t) (2 ^ m) (2 ^ p) y r
-  K = setting k t y r p h e Y least most
-
-  F : Floored N M b g
-  F = record { low = div-mul-le-self (M * b) N; high = lt-div-mul-add (pow-pos (4 * k)) }
-
-  -- the powers of the two rules for M
-  root-power : 2 ^ (9 * k + 1 + p) ≡ 2 * Z * N * N * 2 ^ p
-  root-power = omega (arith, power-of (9 * k + 1 + p) (1 ∷ k ∷ 4 * k ∷ 4 * k ∷ p ∷ []) (omega arith))
-
-  inverse-power : 2 ^ (k + 1 + p) ≡ 2 * Z * 2 ^ p
-  inverse-power = omega (arith, power-of (k + 1 + p) (1 ∷ k ∷ p ∷ []) (omega arith))
-
-  whole-square : 2 ^ (8 * k) ≡ N * N
-  whole-square = power-of (8 * k) (4 * k ∷ 4 * k ∷ []) (omega arith)
-
   -- the rules for M over Z, N and 2^p
   root-low : NearRoot k r p M → r * ((M - 1) * (M - 1)) < 2 * Z * N * N * 2 ^ p
-  root-low near = omega (arith, near .low, root-power)
+  root-low near = omega (arith, near .low, root-power k p)
 
   root-high : NearRoot k r p M → 2 * Z * N * N * 2 ^ p < r * ((M + 1) * (M + 1))
-  root-high near = omega (arith, near .high, root-power)
+  root-high near = omega (arith, near .high, root-power k p)
 
   inverse-low : NearInverse k r p M → 2 * Z * 2 ^ p * ((M - 1) * (M - 1)) < r * (N * N)
-  inverse-low near = omega (arith, near .low, ap (λ (n : ℕ). (M - 1) * (M - 1) * n) inverse-power, ap (λ (n : ℕ). r * n) whole-square)
+  inverse-low near = omega (arith, near .low, ap (λ (n : ℕ). (M - 1) * (M - 1) * n) (inverse-power k p), ap (λ (n : ℕ). r * n) (whole-square k))
 
   inverse-high : NearInverse k r p M → r * (N * N) < 2 * Z * 2 ^ p * ((M + 1) * (M + 1))
-  inverse-high near = omega (arith, near .high, ap (λ (n : ℕ). (M + 1) * (M + 1) * n) inverse-power, ap (λ (n : ℕ). r * n) whole-square)
+  inverse-high near = omega (arith, near .high, ap (λ (n : ℕ). (M + 1) * (M + 1) * n) (inverse-power k p), ap (λ (n : ℕ). r * n) (whole-square k))
 
   recip-twice : M ≡ r * 2 ^ (3 * k - 1) → 2 * M ≡ r * (Z * Z * Z)
   recip-twice is =
@@ -84,27 +62,51 @@ module _ (k t y r p M b : ℕ) (h : 7 ≤ k) (e : p ≤ 1) (Y : Significand k t 
         ap (λ (n : ℕ). r * n) (power-of (3 * k) (k ∷ k ∷ k ∷ []) (omega arith)),
       )
 
-  under : (op : Op) → Multiplies op k r p M → Close op N (2 ^ t) (y * r) b → Under op k m y p (g - reachOf op)
-  under reciprocal is C =
-      omega (arith, recip-under Z N (2 ^ t) (2 ^ m) (2 ^ p) y r M b g K F (recip-twice is) C, quotient-scale k m, mul-sub y g 12, K .significand, pow-pos (4 * k + m))
-  under root near C =
-      rw square-scale (root-under Z N (2 ^ t) (2 ^ m) (2 ^ p) y r M b g K F (root-low near) (root-high near) C)
-  under inverseRoot near C =
-      rw square-scale (omega (arith, inverse-under Z N (2 ^ t) (2 ^ m) (2 ^ p) y r M b g K F (inverse-low near) (inverse-high near) C))
+  -- such an M has 4k + 2 bits at most
+  pub multiplier-most : p ≤ 1 → 2 ^ k ≤ r → r ≤ 2 ^ (k + 1) → (op : Op) → Multiplies op k r p M → M ≤ 2 ^ (4 * k + 1)
+  multiplier-most e least most op near = omega (arith, go op near, power-of (4 * k + 1) (1 ∷ 4 * k ∷ []) (omega arith))
+    where
+      top : r ≤ 2 * Z
+      top = omega (arith, most, power-of (k + 1) (1 ∷ k ∷ []) (omega arith))
+      go : (op : Op) → Multiplies op k r p M → M ≤ 2 * N
+      go reciprocal is = omega (arith, recip-multiplier Z N (2 ^ p) r M top (whole-is k) (recip-twice is))
+      go root near = root-multiplier Z N (2 ^ p) r M least (parity-most p e) (root-low near)
+      go inverseRoot near = omega (arith, inverse-multiplier Z N (2 ^ p) r M top (pow-pos p) (inverse-low near))
 
-  over : (op : Op) → Multiplies op k r p M → Close op N (2 ^ t) (y * r) b → Over op k m y p (g + reachOf op)
-  over reciprocal is C = rw quotient-scale (recip-over Z N (2 ^ t) (2 ^ m) (2 ^ p) y r M b g K F (recip-twice is) C)
+module _ (k t y r p M b : ℕ) (h : 7 ≤ k) (e : p ≤ 1) (Y : Significand k t y) (least : 2 ^ k ≤ r) (most : r ≤ 2 ^ (k + 1)) where
+  abbrev m : ℕ
+  m = 3 * k + t - 1
+
+  abbrev g : ℕ
+  g = M * b / 2 ^ (4 * k)
+
+  K : Setting (2 ^ k) (2 ^ (4 * k)) (2 ^ t) (2 ^ m) (2 ^ p) y r
+  K = setting k t y r p h e Y least most
+
+  F : Floored (2 ^ (4 * k)) M b g
+  F = record { low = div-mul-le-self (M * b) (2 ^ (4 * k)); high = lt-div-mul-add (pow-pos (4 * k)) }
+
+  under : (op : Op) → Multiplies op k r p M → Close op (2 ^ (4 * k)) (2 ^ t) (y * r) b → Under op k m y p (g - reachOf op)
+  under reciprocal is C =
+      omega (arith, recip-under (2 ^ k) (2 ^ (4 * k)) (2 ^ t) (2 ^ m) (2 ^ p) y r M b g K F (recip-twice k r p M h is) C, quotient-scale k m, mul-sub y g 12, K .significand, pow-pos (4 * k + m))
+  under root near C =
+      rw square-scale (root-under (2 ^ k) (2 ^ (4 * k)) (2 ^ t) (2 ^ m) (2 ^ p) y r M b g K F (root-low k r p M h near) (root-high k r p M h near) C)
+  under inverseRoot near C =
+      rw square-scale (omega (arith, inverse-under (2 ^ k) (2 ^ (4 * k)) (2 ^ t) (2 ^ m) (2 ^ p) y r M b g K F (inverse-low k r p M h near) (inverse-high k r p M h near) C))
+
+  over : (op : Op) → Multiplies op k r p M → Close op (2 ^ (4 * k)) (2 ^ t) (y * r) b → Over op k m y p (g + reachOf op)
+  over reciprocal is C = rw quotient-scale (recip-over (2 ^ k) (2 ^ (4 * k)) (2 ^ t) (2 ^ m) (2 ^ p) y r M b g K F (recip-twice k r p M h is) C)
   over root near C =
-      rw square-scale (root-over Z N (2 ^ t) (2 ^ m) (2 ^ p) y r M b g K F (root-low near) (root-high near) C)
+      rw square-scale (root-over (2 ^ k) (2 ^ (4 * k)) (2 ^ t) (2 ^ m) (2 ^ p) y r M b g K F (root-low k r p M h near) (root-high k r p M h near) C)
   over inverseRoot near C =
-      rw square-scale (omega (arith, inverse-over Z N (2 ^ t) (2 ^ m) (2 ^ p) y r M b g K F (inverse-low near) (inverse-high near) C))
+      rw square-scale (omega (arith, inverse-over (2 ^ k) (2 ^ (4 * k)) (2 ^ t) (2 ^ m) (2 ^ p) y r M b g K F (inverse-low k r p M h near) (inverse-high k r p M h near) C))
 
   reach-small : (op : Op) → reachOf op ≤ 12
   reach-small reciprocal = omega arith
   reach-small root = omega arith
   reach-small inverseRoot = omega arith
 
-  pub general : (op : Op) → Multiplies op k r p M → Close op N (2 ^ t) (y * r) b → Within op k t y p (reachOf op) g
+  pub general : (op : Op) → Multiplies op k r p M → Close op (2 ^ (4 * k)) (2 ^ t) (y * r) b → Within op k t y p (reachOf op) g
   general op near C =
       record {
         enough = omega (arith, over-least k t y p (g + reachOf op) h e Y op (over op near C), whole-least k h, reach-small op);

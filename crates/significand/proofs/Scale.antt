@@ -53,6 +53,16 @@ quotient-scale k m = power-of (4 * k + m) (4 * k ∷ m ∷ []) (omega arith)
 pub square-scale : (k m : ℕ) → 2 ^ (8 * k + m) ≡ 2 ^ (4 * k) * 2 ^ (4 * k) * 2 ^ m
 square-scale k m = omega (arith, power-of (8 * k + m) (4 * k ∷ 4 * k ∷ m ∷ []) (omega arith))
 
+-- the powers of the two rules for M
+pub root-power : (k p : ℕ) → 2 ^ (9 * k + 1 + p) ≡ 2 * 2 ^ k * 2 ^ (4 * k) * 2 ^ (4 * k) * 2 ^ p
+root-power k p = omega (arith, power-of (9 * k + 1 + p) (1 ∷ k ∷ 4 * k ∷ 4 * k ∷ p ∷ []) (omega arith))
+
+pub inverse-power : (k p : ℕ) → 2 ^ (k + 1 + p) ≡ 2 * 2 ^ k * 2 ^ p
+inverse-power k p = omega (arith, power-of (k + 1 + p) (1 ∷ k ∷ p ∷ []) (omega arith))
+
+pub whole-square : (k : ℕ) → 2 ^ (8 * k) ≡ 2 ^ (4 * k) * 2 ^ (4 * k)
+whole-square k = power-of (8 * k) (4 * k ∷ 4 * k ∷ []) (omega arith)
+
 module _ (k t y p x : ℕ) (h : 7 ≤ k) (e : p ≤ 1) (Y : Significand k t y) where
   abbrev N : ℕ
   N = 2 ^ (4 * k)

@@ -10,6 +10,24 @@ use Rattle.numbers.proofs.Ring.{E, v, #, _⊕_, _⊗_, H, _⊙_⊑_, nlin, nlin
 use Rattle.numbers.proofs.Squares.{square-lt, cancel-lt, squares-below, squares-above}
 use Rattle.significand.proofs.Close.{Close}
 
+-- M is at most 2 N for the root, and at most N for the others
+module _ (Z N X R M : ℕ) where
+  pub root-multiplier : Z ≤ R → X ≤ 2 → R * ((M - 1) * (M - 1)) < 2 * Z * N * N * X → M ≤ 2 * N
+  root-multiplier h e low =
+      let i : 2 * Z * N * N * X ≤ R * (2 * N * (2 * N)) = omega (arith, mul-le-mul-left (2 * Z * N * N) e, mul-le-mul-right (4 * N * N) h) in
+      let j : (M - 1) * (M - 1) < 2 * N * (2 * N) = lt-of-mul-lt-mul-left R (omega (arith, i)) in
+      omega (arith, square-lt j)
+
+  pub inverse-multiplier : R ≤ 2 * Z → 1 ≤ X → 2 * Z * X * ((M - 1) * (M - 1)) < R * (N * N) → M ≤ N
+  inverse-multiplier h e low =
+      let m : ℕ = (M - 1) * (M - 1) in
+      let i : 2 * Z * m ≤ 2 * Z * X * m = omega (arith, mul-le-mul-left (2 * Z * m) e) in
+      let j : 2 * Z * m < 2 * Z * (N * N) = omega (arith, i, mul-le-mul-right (N * N) h) in
+      omega (arith, square-lt (lt-of-mul-lt-mul-left (2 * Z) j))
+
+  pub recip-multiplier : R ≤ 2 * Z → N ≡ Z * Z * Z * Z → 2 * M ≡ R * (Z * Z * Z) → M ≤ N
+  recip-multiplier h whole exactly = omega (arith, mul-le-mul-right (Z * Z * Z) h, whole)
+
 -- N is Z⁴, T the unit of the last digit, P = 2^m with 2 P = T Z³, X = 2^p, and R from Z to 2 Z
 pub record Setting (Z N T P X y R : ℕ) : Type 0 where
   pub whole : N ≡ Z * Z * Z * Z
@@ -79,12 +97,8 @@ Z³ = Z′ ⊗ Z′ ⊗ Z′
 module _ (Z N T P X y R M b g : ℕ) (K : Setting Z N T P X y R) (F : Floored N M b g) where
   -- the root: (M − 1)² R < 2 Z N² X < (M + 1)² R
   module _ (low : R * ((M - 1) * (M - 1)) < 2 * Z * N * N * X) (high : 2 * Z * N * N * X < R * ((M + 1) * (M + 1))) where
-    pub root-multiplier : M ≤ 2 * N
-    root-multiplier =
-        let i : 2 * Z * N * N * X ≤ R * (2 * N * (2 * N)) =
-        omega (arith, mul-le-mul-left (2 * Z * N * N) (K .parity-most), mul-le-mul-right (4 * N * N) (K .factor-least)) in
-        let j : (M - 1) * (M - 1) < 2 * N * (2 * N) = lt-of-mul-lt-mul-left R (omega (arith, i)) in
-        omega (arith, square-lt j)
+    root-top : M ≤ 2 * N
+    root-top = root-multiplier Z N X R M (K .factor-least) (K .parity-most) low
 
     module _ (C : Close root N T (y * R) b) where
       positive : 0 < N * (y * R)
@@ -96,7 +110,7 @@ module _ (Z N T P X y R M b g : ℕ) (K : Setting Z N T P X y R) (F : Floored N 
           cancel-lt (2 * R * N * N) (Z * Z * Z) (mul-pos (mul-pos (K .radix) (K .radix)) (K .radix))
           (omega (arith, ap (λ (m : ℕ). R * N * N * e * e * m) (K .half)))
           (omega (arith, ap (λ (m : ℕ). 2 * y * R * N * N * N * X * m) (K .whole)))
-          (squares-below T R (b - 2) (M - 1) (C .high) low (product-under N M b g (K .big) F (C .most) root-multiplier) positive)
+          (squares-below T R (b - 2) (M - 1) (C .high) low (product-under N M b g (K .big) F (C .most) root-top) positive)
 
       pub root-over : y * (N * N * X) < (g + 7) * (g + 7) * P
       root-over =
@@ -104,16 +118,12 @@ module _ (Z N T P X y R M b g : ℕ) (K : Setting Z N T P X y R) (F : Floored N 
           cancel-lt (2 * R * N * N) (Z * Z * Z) (mul-pos (mul-pos (K .radix) (K .radix)) (K .radix))
           (omega (arith, ap (λ (m : ℕ). 2 * y * R * N * N * N * X * m) (K .whole)))
           (omega (arith, ap (λ (m : ℕ). R * N * N * e * e * m) (K .half)))
-          (squares-above T R (b + 2) (M + 1) (C .low) high (product-over N M b g (K .big) F (C .most) root-multiplier) positive)
+          (squares-above T R (b + 2) (M + 1) (C .low) high (product-over N M b g (K .big) F (C .most) root-top) positive)
 
   -- the inverse root: (M − 1)² 2 Z X < R N² < (M + 1)² 2 Z X
   module _ (low : 2 * Z * X * ((M - 1) * (M - 1)) < R * (N * N)) (high : R * (N * N) < 2 * Z * X * ((M + 1) * (M + 1))) where
-    pub inverse-multiplier : M ≤ N
-    inverse-multiplier =
-        let m : ℕ = (M - 1) * (M - 1) in
-        let i : 2 * Z * m ≤ 2 * Z * X * m = omega (arith, mul-le-mul-left (2 * Z * m) (K .parity-least)) in
-        let j : 2 * Z * m < 2 * Z * (N * N) = omega (arith, i, mul-le-mul-right (N * N) (K .factor-most)) in
-        omega (arith, square-lt (lt-of-mul-lt-mul-left (2 * Z) j))
+    inverse-top : M ≤ N
+    inverse-top = inverse-multiplier Z N X R M (K .factor-most) (K .parity-least) low
 
     module _ (C : Close inverseRoot N T (y * R) b) where
       exact-positive : 0 < N * N * N * T
@@ -129,18 +139,18 @@ module _ (Z N T P X y R M b g : ℕ) (K : Setting Z N T P X y R) (F : Floored N 
           let e : ℕ = g - 7 in
           cancel-lt (2 * Z * R * N * N) 1 (omega arith) (omega arith) (omega (arith, exact))
           (squares-below (y * R) (2 * Z * X) (b - 2) (M - 1) (C .high) low
-          (product-under N M b g (K .big) F (C .most) (omega (arith, inverse-multiplier))) exact-positive)
+          (product-under N M b g (K .big) F (C .most) (omega (arith, inverse-top))) exact-positive)
 
       pub inverse-over : N * N * P < (g + 7) * (g + 7) * (y * X)
       inverse-over =
           cancel-lt (8 * Z * R * N * N) 1 (omega arith) (omega (arith, exact)) (omega arith)
           (squares-above (y * R) (2 * Z * X) (2 * b + 9) (M + 1) (C .low) high
-          (product-twice N M b g (K .big) F (C .most) inverse-multiplier) (omega (arith, exact-positive)))
+          (product-twice N M b g (K .big) F (C .most) inverse-top) (omega (arith, exact-positive)))
 
   -- the reciprocal: 2 M is R Z³
   module _ (exactly : 2 * M ≡ R * (Z * Z * Z)) where
-    pub recip-multiplier : M ≤ N
-    recip-multiplier = omega (arith, mul-le-mul-right (Z * Z * Z) (K .factor-most), K .whole)
+    recip-top : M ≤ N
+    recip-top = recip-multiplier Z N X R M (K .factor-most) (K .whole) exactly
 
     module _ (C : Close reciprocal N T (y * R) b) where
       pub recip-under : g * y ≤ N * P + 6 * y
@@ -153,7 +163,7 @@ module _ (Z N T P X y R M b g : ℕ) (K : Setting Z N T P X y R) (F : Floored N 
           ∷ # 6 ⊗ y′ ⊙ R′ ⊗ Z³ ⊑ # 2 ⊗ M′
           ∷ # 12 ⊗ y′ ⊙ M′ ⊑ N′
           ∷ [])
-          (g′ ⊗ y′) (N′ ⊗ P′ ⊕ # 6 ⊗ y′) tt (omega arith) (omega (arith, recip-multiplier))
+          (g′ ⊗ y′) (N′ ⊗ P′ ⊕ # 6 ⊗ y′) tt (omega arith) (omega (arith, recip-top))
 
       pub recip-over : N * P < (g + 12) * y
       recip-over =
@@ -165,5 +175,5 @@ module _ (Z N T P X y R M b g : ℕ) (K : Setting Z N T P X y R) (F : Floored N 
           ∷ # 2 ⊗ y′ ⊙ M′ ⊗ b′ ⊕ # 1 ⊑ g′ ⊗ N′ ⊕ N′
           ∷ # 22 ⊗ y′ ⊙ M′ ⊑ N′
           ∷ [])
-          (# 2 ⊗ N′ ⊗ (N′ ⊗ P′) ⊕ # 2 ⊗ y′) (# 2 ⊗ N′ ⊗ ((g′ ⊕ # 12) ⊗ y′)) tt (omega (arith, recip-multiplier)) in
+          (# 2 ⊗ N′ ⊗ (N′ ⊗ P′) ⊕ # 2 ⊗ y′) (# 2 ⊗ N′ ⊗ ((g′ ⊕ # 12) ⊗ y′)) tt (omega (arith, recip-top)) in
           lt-of-mul-lt-mul-left (2 * N) (omega (arith, i, K .significand))
