@@ -105,3 +105,14 @@ module _ (k t y p x : ℕ) (h : 7 ≤ k) (e : p ≤ 1) (Y : Significand k t y) w
       let i : x * x * y < N * N * y =
       omega (arith, square-scale k m, mul-le-mul-left (N * N) (Y .least), mul-le-mul-left (x * x * y) (pow-pos p), u) in
       omega (arith, square-lt {a = x} {b = N} (lt-of-mul-lt-mul-right y i))
+
+-- what is less than a number under the exact value is under it too, and what is more than one over it is over it
+pub under-less : (op : Op) (k m y p x z : ℕ) → z ≤ x → Under op k m y p x → Under op k m y p z
+under-less reciprocal k m y p x z l u = omega (arith, mul-le-mul-right y l)
+under-less root k m y p x z l u = omega (arith, mul-le-mul-right (2 ^ m) (mul-le-mul l l))
+under-less inverseRoot k m y p x z l u = omega (arith, mul-le-mul-right (2 ^ p) (mul-le-mul-right y (mul-le-mul l l)))
+
+pub over-more : (op : Op) (k m y p x z : ℕ) → x ≤ z → Over op k m y p x → Over op k m y p z
+over-more reciprocal k m y p x z l o = omega (arith, mul-le-mul-right y l)
+over-more root k m y p x z l o = omega (arith, mul-le-mul-right (2 ^ m) (mul-le-mul l l))
+over-more inverseRoot k m y p x z l o = omega (arith, mul-le-mul-right (2 ^ p) (mul-le-mul-right y (mul-le-mul l l)))
