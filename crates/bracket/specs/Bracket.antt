@@ -1,0 +1,24 @@
+-- Down and up for an offset, a centre and a list: where the lower and the upper agree, and how far apart they are. Assumes nothing.
+use Prim.Native.Nat.{ℕ, _*_, _<_}
+use mathlib.Core.Path.{_≡_}
+use mathlib.Core.Logic.{_↔_, _⊎_}
+use mathlib.Core.List.{List}
+use lib.ListN.{take}
+use lib.IntN.{ℤ, pos, natAbs, _+ℤ_}
+use Rattle.kinds.specs.Rounding.{modeOf, up, down}
+use Rattle.offset.specs.Offset.{offsetOf, DividedBy}
+use Rattle.cutter.specs.Map.{widthOf, depthOf}
+use Rattle.cutter.specs.Centre.{Point, Centre, centreOf}
+use Rattle.cutter.specs.List.{countOf, centreAt, listLength}
+use Rattle.cutter.specs.Call.{bufferAfter}
+use Rattle.cutter.specs.Agree.{ExactAt, ExactMap, entryAt}
+
+-- one offset: the lower and the upper are equal exactly where q is a perfect square whose root divides component × radius,
+-- or that product is 0; otherwise the upper is larger by one micrometre
+pub record OffsetBracket (component : ℤ) (radius q : ℕ) : Type 0 where
+  pub equal :
+      (offsetOf down component radius q ≡ offsetOf up component radius q)
+      ↔ ((natAbs component * radius ≡ 0) ⊎ DividedBy q (natAbs component * radius))
+  pub next :
+      (offsetOf down component radius q ≡ offsetOf up component radius q → ⊥)
+      → offsetOf up component radius q ≡ offsetOf down component radius q +ℤ pos 1
