@@ -13,12 +13,13 @@ use Rattle.cutter.specs.List.{countOf, centreAt, listLength}
 use Rattle.cutter.specs.Call.{bufferAfter}
 use Rattle.cutter.specs.Agree.{ExactAt, ExactMap, entryAt}
 
--- one offset: the lower and the upper are equal exactly where q is a perfect square whose root divides component × radius,
--- or that product is 0; otherwise the upper is larger by one micrometre
+-- n over √q is a whole number: n is 0, or q is a perfect square whose root divides n
+abbrev pub WholeOver : ℕ → ℕ → Type 0
+WholeOver q n = (n ≡ 0) ⊎ DividedBy q n
+
+-- one offset: the lower and the upper are equal exactly where component × radius over √q is whole; otherwise the upper is larger by 1
 pub record OffsetBracket (component : ℤ) (radius q : ℕ) : Type 0 where
-  pub equal :
-      (offsetOf down component radius q ≡ offsetOf up component radius q)
-      ↔ ((natAbs component * radius ≡ 0) ⊎ DividedBy q (natAbs component * radius))
+  pub equal : (offsetOf down component radius q ≡ offsetOf up component radius q) ↔ WholeOver q (natAbs component * radius)
   pub next :
       (offsetOf down component radius q ≡ offsetOf up component radius q → ⊥)
       → offsetOf up component radius q ≡ offsetOf down component radius q +ℤ pos 1
