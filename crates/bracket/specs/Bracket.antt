@@ -1,5 +1,5 @@
 -- Down and up for an offset, a centre and a list: where the lower and the upper agree, and how far apart they are. Assumes nothing.
-use Prim.Native.Nat.{ℕ, _*_, _<_}
+use Prim.Native.Nat.{ℕ, zero, suc, _*_, _<_}
 use mathlib.Core.Path.{_≡_}
 use mathlib.Core.Logic.{_↔_, _⊎_}
 use mathlib.Core.List.{List}
@@ -23,3 +23,16 @@ pub record OffsetBracket (component : ℤ) (radius q : ℕ) : Type 0 where
   pub next :
       (offsetOf down component radius q ≡ offsetOf up component radius q → ⊥)
       → offsetOf up component radius q ≡ offsetOf down component radius q +ℤ pos 1
+
+-- the x, y or z of a centre (j is 0, 1 or 2)
+abbrev pub coordinate : Centre → ℕ → ℤ
+coordinate k zero = k .x
+coordinate k (suc zero) = k .y
+coordinate k (suc (suc j)) = k .z
+
+-- one centre: the lower and the upper are equal exactly where the point is exact; a coordinate that differs is larger by 1 in the upper
+pub record CentreBracket (step radius : ℕ) (p : Point) : Type 0 where
+  pub equal : (centreOf down step radius p ≡ centreOf up step radius p) ↔ ExactAt step radius p
+  pub next : (j : ℕ)
+      → (coordinate (centreOf down step radius p) j ≡ coordinate (centreOf up step radius p) j → ⊥)
+      → coordinate (centreOf up step radius p) j ≡ coordinate (centreOf down step radius p) j +ℤ pos 1

@@ -1,0 +1,143 @@
+-- One centre, rounded down and up: both are equal exactly where the point is exact, and a coordinate that differs is larger by one
+-- in the upper. Assumes nothing.
+use mathlib.Core.Path.{_≡_, refl, sym, ap, subst, _∙_}
+use mathlib.Core.Logic.{_⊎_, inl, inr}
+use Prim.Native.Nat.{ℕ, zero, suc, _+_, _*_, _^_, _≤_, _<_}
+use native.Mathlib.Nat.{mul-le-mul, mul-pos}
+use native.Mathlib.Omega.{arith}
+use lib.IntN.{ℤ, pos, negsuc, negℤ, natAbs, _+ℤ_, +ℤ-assoc, +ℤ-invl, +ℤ-idl}
+use Rattle.kinds.specs.Rounding.{Mode, up, down}
+use Rattle.numbers.proofs.Squares.{square-same}
+use Rattle.offset.specs.Offset.{squaredLength, offsetOf, MultipleOf, DividedBy}
+use Rattle.cutter.specs.Centre.{Point, Centre, centreOf}
+use Rattle.cutter.specs.Agree.{ExactAt}
+use Rattle.bracket.specs.Bracket.{WholeOver, coordinate, OffsetBracket, CentreBracket}
+use Rattle.bracket.proofs.Offset.{offset-bracket}
+
+-- what is known of the step, the radius and a point of an accepted map
+pub record InRange (step radius : ℕ) (p : Point) : Type 0 where
+  pub step-from : 1 ≤ step
+  pub step-to : step ≤ 10000
+  pub radius-from : 1 ≤ radius
+  pub radius-to : radius ≤ 12500
+  pub column-to : p .column ≤ 64
+  pub row-to : p .row ≤ 64
+  pub height-to : natAbs (p .height) ≤ 50000
+  pub dx-to : natAbs (p .dx) ≤ 100000
+  pub dy-to : natAbs (p .dy) ≤ 100000
+
+-- ---- the three coordinates alike
+
+-- the coordinates of the map point
+abbrev pub pointAlong : ℕ → Point → ℕ → ℤ
+pointAlong step p zero = pos (p .column * step)
+pointAlong step p (suc zero) = pos (p .row * step)
+pointAlong step p (suc (suc j)) = p .height
+
+-- the components of the normal
+abbrev pub normalAlong : ℕ → Point → ℕ → ℤ
+normalAlong step p zero = negℤ (p .dx)
+normalAlong step p (suc zero) = negℤ (p .dy)
+normalAlong step p (suc (suc j)) = pos (2 * step)
+
+pub coordinate-is : (mode : Mode) (step radius : ℕ) (p : Point) (j : ℕ)
+    → coordinate (centreOf mode step radius p) j ≡ pointAlong step p j +ℤ offsetOf mode (normalAlong step p j) radius (squaredLength (p .dx) (p .dy) step)
+unfolding centreOf
+coordinate-is mode step radius p zero = refl
+coordinate-is mode step radius p (suc zero) = refl
+coordinate-is mode step radius p (suc (suc j)) = refl
+
+same-centre : (a b : Centre) → ((j : ℕ) → coordinate a j ≡ coordinate b j) → a ≡ b
+same-centre a b h = λ i. record { x = h 0 i; y = h 1 i; z = h 2 i }
+
+-- a summand in front is cancelled
+cancel : (a x y : ℤ) → a +ℤ x ≡ a +ℤ y → x ≡ y
+cancel a x y e = sym (gone x) ∙ ap (λ (z : ℤ). negℤ a +ℤ z) e ∙ gone y
+  where
+    gone : (z : ℤ) → negℤ a +ℤ (a +ℤ z) ≡ z
+    gone z = sym (+ℤ-assoc (negℤ a) a z) ∙ ap (λ (k : ℤ). k +ℤ z) (+ℤ-invl a) ∙ +ℤ-idl z
+
+pub abs-neg : (z : ℤ) → natAbs (negℤ z) ≡ natAbs z
+abs-neg (pos zero) = refl
+abs-neg (pos (suc n)) = refl
+abs-neg (negsuc n) = refl
+
+-- where n / √q is whole, every root of q divides n
+whole-multiple : (q n w : ℕ) → w * w ≡ q → WholeOver q n → MultipleOf w n
+whole-multiple q n w s (inl z) = record { quotient = 0; is = omega arith }
+whole-multiple q n w s (inr d) =
+    let r : d .root ≡ w = square-same (d .root) w (d .square ∙ sym s) in
+    record { quotient = d .multiple .quotient; is = ap (λ (x : ℕ). d .multiple .quotient * x) (sym r) ∙ d .multiple .is }
+
+-- a root of q that divides n makes n / √q whole
+multiple-whole : (q n w : ℕ) → w * w ≡ q → MultipleOf w n → WholeOver q n
+multiple-whole q n w s d = inr (record { root = w; square = s; multiple = d })
+
+module _ (step radius : ℕ) (p : Point) (h : InRange step radius p) where
+  length-pos : 0 < squaredLength (p .dx) (p .dy) step
+  length-pos = omega (arith, mul-pos (h .step-from) (h .step-from))
+
+  product-to : (j : ℕ) → natAbs (normalAlong step p j) * radius ≤ 1250000000
+  product-to zero = rw (abs-neg (p .dx)) (omega (arith, mul-le-mul (h .dx-to) (h .radius-to)))
+  product-to (suc zero) = rw (abs-neg (p .dy)) (omega (arith, mul-le-mul (h .dy-to) (h .radius-to)))
+  product-to (suc (suc j)) = omega (arith, mul-le-mul (h .step-to) (h .radius-to))
+
+  abbrev low : ℕ → ℤ
+  low j = coordinate (centreOf down step radius p) j
+
+  abbrev high : ℕ → ℤ
+  high j = coordinate (centreOf up step radius p) j
+
+  abbrev Along : ℕ → Type 0
+  Along j = WholeOver (squaredLength (p .dx) (p .dy) step) (natAbs (normalAlong step p j) * radius)
+
+  along : (j : ℕ) → OffsetBracket (normalAlong step p j) radius (squaredLength (p .dx) (p .dy) step)
+  along j = offset-bracket (normalAlong step p j) radius (squaredLength (p .dx) (p .dy) step) length-pos (omega (arith, product-to j))
+
+  -- coordinates are equal where the offsets are
+  same-along : (j : ℕ)
+      → offsetOf down (normalAlong step p j) radius (squaredLength (p .dx) (p .dy) step)
+          ≡ offsetOf up (normalAlong step p j) radius (squaredLength (p .dx) (p .dy) step)
+      → low j ≡ high j
+  same-along j e =
+      coordinate-is down step radius p j ∙ ap (λ (z : ℤ). pointAlong step p j +ℤ z) e ∙ sym (coordinate-is up step radius p j)
+
+  next-along : (j : ℕ) → (low j ≡ high j → ⊥) → high j ≡ low j +ℤ pos 1
+  next-along j n =
+      coordinate-is up step radius p j
+      ∙ ap (λ (z : ℤ). pointAlong step p j +ℤ z) (along j .next (λ e. n (same-along j e)))
+      ∙ sym (+ℤ-assoc (pointAlong step p j) (offsetOf down (normalAlong step p j) radius (squaredLength (p .dx) (p .dy) step)) (pos 1))
+      ∙ ap (λ (z : ℤ). z +ℤ pos 1) (sym (coordinate-is down step radius p j))
+
+  whole-along : (j : ℕ) → low j ≡ high j → Along j
+  whole-along j e =
+      along j .equal .0
+      (cancel (pointAlong step p j) _ _ (sym (coordinate-is down step radius p j) ∙ e ∙ coordinate-is up step radius p j))
+
+  -- the z component is positive, so it gives the root
+  exact-of : ((j : ℕ) → low j ≡ high j) → ExactAt step radius p
+  exact-of e = by-z (whole-along 2 (e 2))
+    where
+      by-z : Along 2 → ExactAt step radius p
+      by-z (inl z) = absurd (omega (arith, mul-pos (h .step-from) (h .radius-from)))
+      by-z (inr d) =
+          record {
+            root = d .root;
+            square = d .square;
+            along-x = rw (abs-neg (p .dx)) at (whole-multiple _ _ (d .root) (d .square) (whole-along 0 (e 0)));
+            along-y = rw (abs-neg (p .dy)) at (whole-multiple _ _ (d .root) (d .square) (whole-along 1 (e 1)));
+            along-z = d .multiple;
+          }
+
+  same-of : ExactAt step radius p → (j : ℕ) → low j ≡ high j
+  same-of x zero = same-along 0 (along 0 .equal .1 (multiple-whole _ _ (x .root) (x .square) (rw (abs-neg (p .dx)) (x .along-x))))
+  same-of x (suc zero) = same-along 1 (along 1 .equal .1 (multiple-whole _ _ (x .root) (x .square) (rw (abs-neg (p .dy)) (x .along-y))))
+  same-of x (suc (suc j)) = same-along 2 (along 2 .equal .1 (multiple-whole _ _ (x .root) (x .square) (x .along-z)))
+
+  -- down and up of one centre
+  pub centre-bracket : CentreBracket step radius p
+  centre-bracket =
+      record {
+        equal = (λ e. exact-of (λ j. ap (λ (k : Centre). coordinate k j) e), λ x. same-centre _ _ (same-of x));
+        next = next-along;
+      }
