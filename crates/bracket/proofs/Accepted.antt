@@ -15,12 +15,13 @@ use Rattle.kinds.specs.Question.{ask}
 use Rattle.kinds.specs.Rounding.{isRounding}
 use Rattle.words.specs.Word.{wordAt, readsAt}
 use Rattle.words.specs.Signed.{signed}
+use Rattle.words.proofs.Differences.{abs-neg}
 use Rattle.cutter.specs.Map.{plt1, trailerAt, distanceOf, widthOf, depthOf, stepOf, radiusOf, heightAt, acrossAt, alongAt}
 use Rattle.cutter.specs.Centre.{Point, pointAt}
 use Rattle.cutter.specs.List.{countOf, listLength}
 use Rattle.cutter.specs.Call.{within, heightsWithin, listRefusal}
 use Rattle.cutter.specs.Agree.{innerPoint}
-use Rattle.bracket.proofs.Centre.{InRange, abs-neg}
+use Rattle.bracket.proofs.Centre.{InRange}
 
 -- ---- the questions
 
@@ -116,3 +117,31 @@ abs-sub a b = omega (arith, abs-add a (negℤ b), abs-neg b)
 -- a column and a row of a map are the place of one of its heights
 inside : (w d c q : ℕ) → c < w → q < d → q * w + c < w * d
 inside w d c q hc hq = omega (arith, mul-le-mul-right w hq)
+
+module _ (m : List ℕ) (room : ℕ) (a : Accepted m room) where
+  height-small : (c q : ℕ) → c < widthOf m → q < depthOf m → natAbs (heightAt m (widthOf m) c q) ≤ 50000
+  unfolding heightAt
+  height-small c q hc hq = a .heights (q * widthOf m + c) (inside (widthOf m) (depthOf m) c q hc hq)
+
+  -- the inner point n is in range
+  pub inner-in-range : (n : ℕ) → n < countOf (widthOf m) (depthOf m) → InRange (stepOf m) (radiusOf m) (innerPoint m n)
+  unfolding pointAt acrossAt alongAt
+  inner-in-range n h =
+      let w = widthOf m in
+      let d = depthOf m in
+      let c = n % (w - 2) + 1 in
+      let q = n / (w - 2) + 1 in
+      let k : 0 < w - 2 = omega (arith, a .width-from) in
+      let hc : n % (w - 2) < w - 2 = mod-lt n k in
+      let hq : n / (w - 2) < d - 2 = div-lt-iff-lt-mul k .1 (omega arith) in
+      record {
+        step-from = a .step-from;
+        step-to = a .step-to;
+        radius-from = a .radius-from;
+        radius-to = a .radius-to;
+        column-to = omega (arith, a .width-to);
+        row-to = omega (arith, a .depth-to);
+        height-to = height-small c q (omega arith) (omega arith);
+        dx-to = omega (arith, abs-sub (heightAt m w (c + 1) q) (heightAt m w (c - 1) q), height-small (c + 1) q (omega arith) (omega arith), height-small (c - 1) q (omega arith) (omega arith));
+        dy-to = omega (arith, abs-sub (heightAt m w c (q + 1)) (heightAt m w c (q - 1)), height-small c (q + 1) (omega arith) (omega arith), height-small c (q - 1) (omega arith) (omega arith));
+      }

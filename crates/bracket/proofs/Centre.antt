@@ -8,6 +8,7 @@ use native.Mathlib.Omega.{arith}
 use lib.IntN.{ℤ, pos, negsuc, negℤ, natAbs, _+ℤ_, +ℤ-assoc, +ℤ-invl, +ℤ-idl}
 use Rattle.kinds.specs.Rounding.{Mode, up, down}
 use Rattle.numbers.proofs.Squares.{square-same}
+use Rattle.words.proofs.Differences.{abs-neg}
 use Rattle.offset.specs.Offset.{squaredLength, offsetOf, MultipleOf, DividedBy}
 use Rattle.cutter.specs.Centre.{Point, Centre, centreOf}
 use Rattle.cutter.specs.Agree.{ExactAt}
@@ -56,11 +57,6 @@ cancel a x y e = sym (gone x) ∙ ap (λ (z : ℤ). negℤ a +ℤ z) e ∙ gone 
   where
     gone : (z : ℤ) → negℤ a +ℤ (a +ℤ z) ≡ z
     gone z = sym (+ℤ-assoc (negℤ a) a z) ∙ ap (λ (k : ℤ). k +ℤ z) (+ℤ-invl a) ∙ +ℤ-idl z
-
-pub abs-neg : (z : ℤ) → natAbs (negℤ z) ≡ natAbs z
-abs-neg (pos zero) = refl
-abs-neg (pos (suc n)) = refl
-abs-neg (negsuc n) = refl
 
 -- where n / √q is whole, every root of q divides n
 whole-multiple : (q n w : ℕ) → w * w ≡ q → WholeOver q n → MultipleOf w n
