@@ -6,8 +6,8 @@ use native.Mathlib.Nat.{add-assoc, zero-add, div-div-eq-div-mul, div-add-mod', m
 use native.Mathlib.Numerals.{add-one, add-two, add-three}
 use native.Mathlib.Omega.{arith}
 use lib.Dec.{lit<}
-use lib.ListN.{length, getD, take, drop, set, length-append, length-drop, length-take, List·getD-append}
-use lib.Seq.{sets-eq, drop-append-add, take-append-seam, drop-append-seam, drop-drop, getD-append-add}
+use lib.ListN.{length, getD, take, drop, set, length-append, length-drop, length-take, drop-of-length-le, List·getD-append}
+use lib.Seq.{sets-eq, drop-cons, drop-append-add, take-append-seam, drop-append-seam, drop-drop, getD-append-add}
 use Rattle.words.specs.Splice.{splice}
 use Rattle.words.specs.Word.{halfAt, wordAt, wordBytes, halfBytes}
 
@@ -16,6 +16,17 @@ pub four : (l : List ℕ) (at a b c d : ℕ) → at + 4 ≤ length l
     → set (set (set (set l at a) (at + 1) b) (at + 2) c) (at + 3) d ≡ splice at (a ∷ b ∷ c ∷ d ∷ []) l
 unfolding splice
 four l at a b c d h = rw (add-one, add-two, add-three) (sets-eq (a ∷ b ∷ c ∷ d ∷ []) l at h)
+
+-- a list of four, by its elements
+listed : (b : List ℕ) → length b ≡ 4 → b ≡ getD b 0 0 ∷ getD b 1 0 ∷ getD b 2 0 ∷ getD b 3 0 ∷ []
+listed b e =
+    cc (drop-cons b 0 0 (omega arith), drop-cons b 1 0 (omega arith), drop-cons b 2 0 (omega arith), drop-cons b 3 0 (omega arith), drop-of-length-le b {i = 4} (omega arith))
+
+-- four stores of the bytes of an array
+pub four-of : (l b : List ℕ) (at : ℕ) → at + 4 ≤ length l → length b ≡ 4
+    → set (set (set (set l at (getD b 0 0)) (at + 1) (getD b 1 0)) (at + 2) (getD b 2 0)) (at + 3) (getD b 3 0) ≡ splice at b l
+four-of l b at h e =
+    four l at (getD b 0 0) (getD b 1 0) (getD b 2 0) (getD b 3 0) h ∙ ap (λ (x : List ℕ). splice at x l) (sym (listed b e))
 
 -- bytes put at the end of a written front lengthen it
 pub splice-front : (p b l : List ℕ) (at : ℕ) → at ≡ length p
@@ -76,7 +87,7 @@ pair-bytes a b ha hb =
     let q : (a + 65536 * b) / 256 % 256 ≡ a / 256 % 256 = ap (λ (x : ℕ). x % 256) g ∙ add-mul-mod-self-left (a / 256) 256 b in
     let r : (a + 65536 * b) / 65536 % 256 ≡ b % 256 = ap (λ (x : ℕ). x % 256) k in
     let s : (a + 65536 * b) / 16777216 % 256 ≡ b / 256 % 256 =
-        ap (λ (x : ℕ). x % 256) (sym (div-div-eq-div-mul (a + 65536 * b) 65536 256) ∙ ap (λ (x : ℕ). x / 256) k) in
+    ap (λ (x : ℕ). x % 256) (sym (div-div-eq-div-mul (a + 65536 * b) 65536 256) ∙ ap (λ (x : ℕ). x / 256) k) in
     cc
 
 -- a number that was put is read again

@@ -54,10 +54,16 @@ pub fn put_word(out: &mut [u8], at: usize, x: u64)
     requires { ⌜ at + 4 ≤ length (now out) ⌝ }
     ensures { λ _. ⌜ now (out .exit) ≡ splice at (wordBytes x) (now (out .entry)) ⌝ }
 {
-    out[at] = (x % 256) as u8;
-    out[at + 1] = (x / 256 % 256) as u8;
-    out[at + 2] = (x / 65536 % 256) as u8;
-    out[at + 3] = (x / 16777216 % 256) as u8;
+    put_four(
+        out,
+        at,
+        [
+            (x % 256) as u8,
+            (x / 256 % 256) as u8,
+            (x / 65536 % 256) as u8,
+            (x / 16777216 % 256) as u8,
+        ],
+    );
 }
 
 // Two numbers of 16 bits as one of 32, the first in the lower half.
