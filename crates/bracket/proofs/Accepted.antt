@@ -21,7 +21,7 @@ use Rattle.cutter.specs.Centre.{Point, pointAt}
 use Rattle.cutter.specs.List.{countOf, listLength}
 use Rattle.cutter.specs.Call.{within, heightsWithin, listRefusal}
 use Rattle.cutter.specs.Agree.{innerPoint}
-use Rattle.bracket.proofs.Centre.{InRange}
+use Rattle.bracket.proofs.Centre.{InRange, abs-add}
 
 -- ---- the questions
 
@@ -96,20 +96,6 @@ accepted-of rounding m room e =
     }
 
 -- ---- an inner point
-
-pub abs-add : (a b : ℤ) → natAbs (a +ℤ b) ≤ natAbs a + natAbs b
-abs-add (pos a) (pos b) = omega arith
-abs-add (pos a) (negsuc b) = by-order (ltb a (suc b))
-  where
-    by-order : (t : Bool) → natAbs (cond t (negsuc (suc b - suc a)) (pos (a - suc b))) ≤ a + suc b
-    by-order true = omega arith
-    by-order false = omega arith
-abs-add (negsuc a) (pos b) = by-order (ltb b (suc a))
-  where
-    by-order : (t : Bool) → natAbs (cond t (negsuc (suc a - suc b)) (pos (b - suc a))) ≤ suc a + b
-    by-order true = omega arith
-    by-order false = omega arith
-abs-add (negsuc a) (negsuc b) = omega arith
 
 abs-sub : (a b : ℤ) → natAbs (a -ℤ b) ≤ natAbs a + natAbs b
 abs-sub a b = omega (arith, abs-add a (negℤ b), abs-neg b)

@@ -2,10 +2,12 @@
 -- in the upper. Assumes nothing.
 use mathlib.Core.Path.{_≡_, refl, sym, ap, subst, _∙_}
 use mathlib.Core.Logic.{_⊎_, inl, inr}
-use Prim.Native.Nat.{ℕ, zero, suc, _+_, _*_, _^_, _≤_, _<_}
+use mathlib.Core.Bool.{Bool, true, false, cond}
+use Prim.Native.Nat.{ℕ, zero, suc, _+_, _-_, _*_, _^_, _≤_, _<_}
 use native.Mathlib.Nat.{mul-le-mul, mul-pos}
 use native.Mathlib.Omega.{arith}
-use lib.IntN.{ℤ, pos, negsuc, negℤ, natAbs, _+ℤ_, +ℤ-assoc, +ℤ-invl, +ℤ-idl}
+use lib.Dec.{lit<, ltb}
+use lib.IntN.{ℤ, pos, negsuc, negℤ, natAbs, subℕ, _+ℤ_, +ℤ-assoc, +ℤ-invl, +ℤ-idl}
 use Rattle.kinds.specs.Rounding.{Mode, up, down}
 use Rattle.numbers.proofs.Squares.{square-same}
 use Rattle.words.proofs.Differences.{abs-neg}
@@ -13,7 +15,7 @@ use Rattle.offset.specs.Offset.{squaredLength, offsetOf, MultipleOf, DividedBy}
 use Rattle.cutter.specs.Centre.{Point, Centre, centreOf}
 use Rattle.cutter.specs.Agree.{ExactAt}
 use Rattle.bracket.specs.Bracket.{WholeOver, coordinate, OffsetBracket, CentreBracket}
-use Rattle.bracket.proofs.Offset.{offset-bracket}
+use Rattle.bracket.proofs.Offset.{offset-small, offset-bracket}
 
 -- what is known of the step, the radius and a point of an accepted map
 pub record InRange (step radius : ℕ) (p : Point) : Type 0 where
@@ -48,8 +50,24 @@ coordinate-is mode step radius p zero = refl
 coordinate-is mode step radius p (suc zero) = refl
 coordinate-is mode step radius p (suc (suc j)) = refl
 
-same-centre : (a b : Centre) → ((j : ℕ) → coordinate a j ≡ coordinate b j) → a ≡ b
-same-centre a b h = λ i. record { x = h 0 i; y = h 1 i; z = h 2 i }
+-- centres are equal where their three coordinates are
+pub same-centre : (a b : Centre) → ((j : ℕ) → j < 3 → coordinate a j ≡ coordinate b j) → a ≡ b
+same-centre a b h = λ i. record { x = h 0 (lit< tt) i; y = h 1 (lit< tt) i; z = h 2 (lit< tt) i }
+
+-- the magnitude of a sum is at most the sum of the magnitudes
+pub abs-add : (a b : ℤ) → natAbs (a +ℤ b) ≤ natAbs a + natAbs b
+abs-add (pos a) (pos b) = omega arith
+abs-add (pos a) (negsuc b) = by-order (ltb a (suc b))
+  where
+    by-order : (t : Bool) → natAbs (cond t (negsuc (suc b - suc a)) (pos (a - suc b))) ≤ a + suc b
+    by-order true = omega arith
+    by-order false = omega arith
+abs-add (negsuc a) (pos b) = by-order (ltb b (suc a))
+  where
+    by-order : (t : Bool) → natAbs (cond t (negsuc (suc a - suc b)) (pos (b - suc a))) ≤ suc a + b
+    by-order true = omega arith
+    by-order false = omega arith
+abs-add (negsuc a) (negsuc b) = omega arith
 
 -- a summand in front is cancelled
 cancel : (a x y : ℤ) → a +ℤ x ≡ a +ℤ y → x ≡ y
@@ -77,6 +95,19 @@ module _ (step radius : ℕ) (p : Point) (h : InRange step radius p) where
   product-to zero = rw (abs-neg (p .dx)) (omega (arith, mul-le-mul (h .dx-to) (h .radius-to)))
   product-to (suc zero) = rw (abs-neg (p .dy)) (omega (arith, mul-le-mul (h .dy-to) (h .radius-to)))
   product-to (suc (suc j)) = omega (arith, mul-le-mul (h .step-to) (h .radius-to))
+
+  point-to : (j : ℕ) → natAbs (pointAlong step p j) ≤ 640000
+  point-to zero = omega (arith, mul-le-mul (h .column-to) (h .step-to))
+  point-to (suc zero) = omega (arith, mul-le-mul (h .row-to) (h .step-to))
+  point-to (suc (suc j)) = omega (arith, h .height-to)
+
+  -- every coordinate is a signed number of 32 bits
+  pub coordinate-small : (mode : Mode) (j : ℕ) → natAbs (coordinate (centreOf mode step radius p) j) < 2147483648
+  coordinate-small mode j =
+      let q = squaredLength (p .dx) (p .dy) step in
+      let o = offsetOf mode (normalAlong step p j) radius q in
+      rw (coordinate-is mode step radius p j)
+      (omega (arith, abs-add (pointAlong step p j) o, point-to j, offset-small (normalAlong step p j) radius q mode length-pos, product-to j))
 
   abbrev low : ℕ → ℤ
   low j = coordinate (centreOf down step radius p) j
@@ -134,6 +165,6 @@ module _ (step radius : ℕ) (p : Point) (h : InRange step radius p) where
   pub centre-bracket : CentreBracket step radius p
   centre-bracket =
       record {
-        equal = (λ e. exact-of (λ j. ap (λ (k : Centre). coordinate k j) e), λ x. same-centre _ _ (same-of x));
+        equal = (λ e. exact-of (λ j. ap (λ (k : Centre). coordinate k j) e), λ x. same-centre _ _ (λ j l. same-of x j));
         next = next-along;
       }

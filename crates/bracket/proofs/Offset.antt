@@ -2,19 +2,20 @@
 use mathlib.Core.Path.{_≡_, refl, sym, ap, _∙_}
 use mathlib.Core.Logic.{_⊎_, inl, inr, by-cases}
 use mathlib.Core.Bool.{Bool, true, false, cond, not}
-use Prim.Native.Nat.{ℕ, zero, suc, _+_, _*_, _^_, _≤_, _<_}
+use Prim.Native.Nat.{ℕ, zero, suc, _+_, _*_, _%_, _^_, _≤_, _<_}
 use native.Mathlib.Nat.{mul-le-mul, mul-le-mul-left, mul-le-mul-right, mul-pos, eq-zero-or-pos}
 use native.Mathlib.Numerals.{add-one}
-use native.Mathlib.Decide.{ℕ-discrete}
+use native.Mathlib.Decide.{ℕ-discrete, decLt}
 use native.Mathlib.Omega.{arith}
 use borrow.Author.Tests.{eq-eqb, ne-eqb}
-use lib.Dec.{leb→le, le→leb}
+use lib.Dec.{eqb, leb→le, le→leb}
 use lib.IntN.{ℤ, pos, negsuc, negℤ, natAbs, sucℤ, _+ℤ_, +ℤ-one}
 use Rattle.kinds.specs.Rounding.{Mode, up, down, Place, exact, below, half, above, away, placeBy, roundedBy}
 use Rattle.numbers.specs.Greatest.{greatest}
 use Rattle.numbers.proofs.Greatest.{greatest-found, greatest-above, squareFits, square-antitone}
-use Rattle.numbers.proofs.Squares.{square-same, square-part}
+use Rattle.numbers.proofs.Squares.{square-rising, square-same, square-part}
 use Rattle.words.specs.Signed.{withSign, isNegative}
+use Rattle.words.proofs.Differences.{abs-sign}
 use Rattle.offset.specs.Offset.{floorOver, placeOver, roundedOver, offsetOf, MultipleOf, DividedBy}
 use Rattle.bracket.specs.Bracket.{WholeOver, OffsetBracket}
 
@@ -31,6 +32,13 @@ floor-low n q =
 pub floor-most : (n q k : ℕ) → k * k * q ≤ n * n → k < 2 ^ 32 → k ≤ floorOver n q
 unfolding floorOver
 floor-most n q k h l = greatest-above 32 (squareFits q (n * n)) (square-antitone q (n * n)) k (le→leb (k * k * q) (n * n) h) l
+
+-- it is at most n
+pub floor-small : (n q : ℕ) → 0 < q → floorOver n q ≤ n
+floor-small n q h =
+    let t = floorOver n q in
+    let s : t * t ≤ n * n = omega (arith, floor-low n q, mul-le-mul-left (t * t) h) in
+    by-cases (decLt n t) (λ l. omega (arith, square-rising l)) (λ l. omega arith)
 
 -- ---- where the floor is exact
 
@@ -102,6 +110,15 @@ rounded-up : (negative : Bool) (n q : ℕ) → (Reached n q → ⊥) → rounded
 unfolding roundedOver roundedBy placeOver placeBy
 rounded-up negative n q h = rw (ne-eqb _ _ h, inexact-up)
 
+-- every rounding is at most one above the floor
+rounded-small : (mode : Mode) (negative : Bool) (n q : ℕ) → roundedOver mode negative n q ≤ suc (floorOver n q)
+unfolding roundedOver roundedBy
+rounded-small mode negative n q = go (away mode negative (eqb (floorOver n q % 2) 1) (placeOver n q (floorOver n q)))
+  where
+    go : (b : Bool) → cond b (suc (floorOver n q)) (floorOver n q) ≤ suc (floorOver n q)
+    go true = omega arith
+    go false = omega arith
+
 -- ---- the two roundings of an offset
 
 one-above : (negative : Bool) (t : ℕ) → withSign negative (cond (not negative) (suc t) t) ≡ withSign negative (cond negative (suc t) t) +ℤ pos 1
@@ -128,6 +145,13 @@ module _ (component : ℤ) (radius q : ℕ) where
   unfolding offsetOf
   offsets-apart h =
       rw (rounded-down _ _ _ h, rounded-up _ _ _ h) (one-above (isNegative component) (floorOver (natAbs component * radius) q))
+
+  -- an offset is at most one above component × radius
+  pub offset-small : (mode : Mode) → 0 < q → natAbs (offsetOf mode component radius q) ≤ suc (natAbs component * radius)
+  unfolding offsetOf
+  offset-small mode hq =
+      let n = natAbs component * radius in
+      rw (abs-sign (isNegative component)) (omega (arith, rounded-small mode (isNegative component) n q, floor-small n q hq))
 
   -- down and up of one offset
   pub offset-bracket : 0 < q → natAbs component * radius < 2 ^ 32 → OffsetBracket component radius q

@@ -3,13 +3,13 @@ use Prim.Native.Nat.{ℕ, zero, suc, _*_, _<_}
 use mathlib.Core.Path.{_≡_}
 use mathlib.Core.Logic.{_↔_, _⊎_}
 use mathlib.Core.List.{List}
-use lib.ListN.{take}
+use lib.ListN.{take, drop}
 use lib.IntN.{ℤ, pos, natAbs, _+ℤ_}
 use Rattle.kinds.specs.Rounding.{modeOf, up, down}
 use Rattle.offset.specs.Offset.{offsetOf, DividedBy}
 use Rattle.cutter.specs.Map.{widthOf, depthOf}
 use Rattle.cutter.specs.Centre.{Point, Centre, centreOf}
-use Rattle.cutter.specs.List.{countOf, centreAt, listLength}
+use Rattle.cutter.specs.List.{countOf, centreAt, listLength, listBytes}
 use Rattle.cutter.specs.Call.{bufferAfter}
 use Rattle.cutter.specs.Agree.{ExactAt, ExactMap, entryAt}
 
@@ -36,3 +36,19 @@ pub record CentreBracket (step radius : ℕ) (p : Point) : Type 0 where
   pub next : (j : ℕ)
       → (coordinate (centreOf down step radius p) j ≡ coordinate (centreOf up step radius p) j → ⊥)
       → coordinate (centreOf up step radius p) j ≡ coordinate (centreOf down step radius p) j +ℤ pos 1
+
+-- after an accepted call: the list at the buffer's front, entry j of record n being coordinate j of the centre n, and the caller's
+-- bytes behind it
+pub record ListHeld (rounding : ℕ) (m out : List ℕ) : Type 0 where
+  pub front : take (listLength m) (bufferAfter rounding m out) ≡ listBytes (modeOf rounding) m
+  pub behind : drop (listLength m) (bufferAfter rounding m out) ≡ drop (listLength m) out
+  pub entry : (n j : ℕ) → n < countOf (widthOf m) (depthOf m) → j < 3
+      → entryAt (bufferAfter rounding m out) n j ≡ coordinate (centreAt (modeOf rounding) m n) j
+
+-- Two lists of one map, rounded down (2) over a lent buffer a and up (1) over b: byte for byte, over the length reported, they are
+-- equal exactly where the map is exact at every inner point; of two entries that differ, the upper is larger by one micrometre
+pub record ListBracket (m a b : List ℕ) : Type 0 where
+  pub equal : (take (listLength m) (bufferAfter 2 m a) ≡ take (listLength m) (bufferAfter 1 m b)) ↔ ExactMap m
+  pub next : (n j : ℕ) → n < countOf (widthOf m) (depthOf m) → j < 3
+      → (entryAt (bufferAfter 2 m a) n j ≡ entryAt (bufferAfter 1 m b) n j → ⊥)
+      → entryAt (bufferAfter 1 m b) n j ≡ entryAt (bufferAfter 2 m a) n j +ℤ pos 1

@@ -1,0 +1,1 @@
+-- Down and up for the list. Assumes nothing.

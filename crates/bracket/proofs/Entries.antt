@@ -1,0 +1,59 @@
+-- What the lent buffer holds after an accepted call: each entry of the list is a coordinate of its centre. Assumes nothing.
+use mathlib.Core.Path.{_≡_, refl, sym, ap, _∙_}
+use mathlib.Core.Bool.{Bool, true, cond}
+use mathlib.Core.List.{List, _++_, append-assoc}
+use Prim.Native.Nat.{ℕ, zero, suc, _+_, _*_, _≤_, _<_}
+use native.Mathlib.Nat.{mul-comm}
+use native.Mathlib.Omega.{arith}
+use lib.Dec.{eqb}
+use lib.ListN.{length, take, drop, length-append}
+use lib.IntN.{ℤ, natAbs}
+use Rattle.kinds.specs.Rounding.{Mode, modeOf}
+use Rattle.words.specs.Word.{wordAt, wordBytes, halfBytes}
+use Rattle.words.specs.Signed.{signed, wordOf}
+use Rattle.words.specs.Splice.{splice}
+use Rattle.words.specs.Joined.{joined}
+use Rattle.words.proofs.Differences.{word-small, signed-word}
+use Rattle.words.proofs.Splicing.{splice-take, splice-drop, three-back}
+use Rattle.words.proofs.Runs.{length-joined, joined-word}
+use Rattle.cutter.specs.Map.{widthOf, depthOf, stepOf, radiusOf}
+use Rattle.cutter.specs.Centre.{Centre, recordBytes}
+use Rattle.cutter.specs.List.{countOf, centreAt, recordAt, trailerBytes, listLength, listBytes}
+use Rattle.cutter.specs.Call.{listRefusal, bufferAfter}
+use Rattle.cutter.specs.Agree.{entryAt, innerPoint}
+use Rattle.bracket.specs.Bracket.{coordinate, ListHeld}
+use Rattle.bracket.proofs.Centre.{coordinate-small}
+use Rattle.bracket.proofs.Accepted.{Accepted, accepted-of, inner-in-range}
+
+-- ---- lengths
+
+pub length-record : (mode : Mode) (m : List ℕ) (n : ℕ) → length (recordAt mode m n) ≡ 12
+unfolding recordAt recordBytes wordBytes
+length-record mode m n = refl
+
+length-trailer : (back w d step radius : ℕ) → length (trailerBytes back w d step radius) ≡ 16
+unfolding trailerBytes wordBytes halfBytes
+length-trailer back w d step radius = refl
+
+length-list : (mode : Mode) (m : List ℕ) → length (listBytes mode m) ≡ listLength m
+unfolding listBytes listLength
+length-list mode m =
+    let c = countOf (widthOf m) (depthOf m) in
+    let t = trailerBytes (12 * c) (widthOf m) (depthOf m) (stepOf m) (radiusOf m) in
+    length-append (joined (recordAt mode m) c) t
+    ∙ omega (arith, length-joined (recordAt mode m) 12 (length-record mode m) c, length-trailer (12 * c) (widthOf m) (depthOf m) (stepOf m) (radiusOf m))
+
+-- ---- one record
+
+-- coordinates of 32 bits are read again from their record
+pub record-entry : (k : Centre) → ((j : ℕ) → natAbs (coordinate k j) < 2147483648)
+    → (j : ℕ) → j < 3 → signed (wordAt (recordBytes k) (4 * j)) ≡ coordinate k j
+record-entry k h j l = ap signed (word-at j l) ∙ signed-word (coordinate k j) (h j)
+  where
+    words : (wordAt (recordBytes k) 0 ≡ wordOf (k .x)) × (wordAt (recordBytes k) 4 ≡ wordOf (k .y)) × (wordAt (recordBytes k) 8 ≡ wordOf (k .z))
+    words = unfold recordBytes in three-back (wordOf (k .x)) (wordOf (k .y)) (wordOf (k .z)) (word-small (k .x) (h 0)) (word-small (k .y) (h 1)) (word-small (k .z) (h 2))
+    word-at : (j : ℕ) → j < 3 → wordAt (recordBytes k) (4 * j) ≡ wordOf (coordinate k j)
+    word-at zero l = words .0
+    word-at (suc zero) l = words .1
+    word-at (suc (suc zero)) l = words .2
+    word-at (suc (suc (suc j))) l = absurd (omega arith)
