@@ -57,3 +57,49 @@ record-entry k h j l = ap signed (word-at j l) ∙ signed-word (coordinate k j) 
     word-at (suc zero) l = words .1
     word-at (suc (suc zero)) l = words .2
     word-at (suc (suc (suc j))) l = absurd (omega arith)
+
+-- ---- the buffer
+
+accepted-buffer : (rounding : ℕ) (m out : List ℕ) → listRefusal rounding m (length out) ≡ 0
+    → bufferAfter rounding m out ≡ splice 0 (listBytes (modeOf rounding) m) out
+unfolding bufferAfter
+accepted-buffer rounding m out e = rw e
+
+-- the word at byte 4·j of record n
+list-word : (mode : Mode) (m out : List ℕ) (n j : ℕ) → n < countOf (widthOf m) (depthOf m) → j < 3
+    → wordAt (splice 0 (listBytes mode m) out) (12 * n + 4 * j) ≡ wordAt (recordAt mode m n) (4 * j)
+unfolding splice listBytes
+list-word mode m out n j h l =
+    let c = countOf (widthOf m) (depthOf m) in
+    let f = recordAt mode m in
+    let t = trailerBytes (12 * c) (widthOf m) (depthOf m) (stepOf m) (radiusOf m) in
+    let rest = drop (0 + length (listBytes mode m)) out in
+    let place : 12 * n + 4 * j ≡ n * 12 + 4 * j = omega arith in
+    ap (wordAt (joined f c ++ t ++ rest)) place
+    ∙ ap (λ (s : List ℕ). wordAt s (n * 12 + 4 * j)) (append-assoc (joined f c) t rest)
+    ∙ joined-word f 12 (length-record mode m) c n (4 * j) (t ++ rest) h (omega arith)
+
+-- the centres of an accepted map have coordinates of 32 bits
+pub centre-small : (mode : Mode) (m : List ℕ) (room : ℕ) → Accepted m room → (n : ℕ) → n < countOf (widthOf m) (depthOf m)
+    → (j : ℕ) → natAbs (coordinate (centreAt mode m n) j) < 2147483648
+unfolding centreAt
+centre-small mode m room a n h j =
+    coordinate-small (stepOf m) (radiusOf m) (innerPoint m n) (inner-in-range m room a n h) mode j
+
+module _ (rounding : ℕ) (m out : List ℕ) (e : listRefusal rounding m (length out) ≡ 0) where
+  entry-is : (n j : ℕ) → n < countOf (widthOf m) (depthOf m) → j < 3
+      → entryAt (bufferAfter rounding m out) n j ≡ coordinate (centreAt (modeOf rounding) m n) j
+  unfolding recordAt
+  entry-is n j h l =
+      ap (λ (s : List ℕ). entryAt s n j) (accepted-buffer rounding m out e)
+      ∙ ap signed (list-word (modeOf rounding) m out n j h l)
+      ∙ record-entry (centreAt (modeOf rounding) m n) (centre-small (modeOf rounding) m (length out) (accepted-of rounding m (length out) e) n h) j l
+
+  -- what an accepted call leaves
+  pub list-held : ListHeld rounding m out
+  list-held =
+      record {
+        front = rw (accepted-buffer rounding m out e, ← length-list (modeOf rounding) m) (splice-take (listBytes (modeOf rounding) m) out);
+        behind = rw (accepted-buffer rounding m out e, ← length-list (modeOf rounding) m) (splice-drop (listBytes (modeOf rounding) m) out);
+        entry = entry-is;
+      }
