@@ -27,7 +27,7 @@ module _ (m : List ℕ) (room : ℕ) (a : Accepted m room) where
   unfolding listBytes recordAt
   same-centres e n h =
       let r : recordBytes (centreAt down m n) ≡ recordBytes (centreAt up m n) =
-          joined-apart (recordAt down m) (recordAt up m) 12 (length-record down m) (length-record up m) (countOf (widthOf m) (depthOf m)) _ _ e n h in
+      joined-apart (recordAt down m) (recordAt up m) 12 (length-record down m) (length-record up m) (countOf (widthOf m) (depthOf m)) _ _ e n h in
       same-centre (centreAt down m n) (centreAt up m n)
       (λ j l.
       sym (record-entry (centreAt down m n) (centre-small down m room a n h) j l)

@@ -124,7 +124,7 @@ module _ (step radius : ℕ) (p : Point) (h : InRange step radius p) where
   -- coordinates are equal where the offsets are
   same-along : (j : ℕ)
       → offsetOf down (normalAlong step p j) radius (squaredLength (p .dx) (p .dy) step)
-          ≡ offsetOf up (normalAlong step p j) radius (squaredLength (p .dx) (p .dy) step)
+      ≡ offsetOf up (normalAlong step p j) radius (squaredLength (p .dx) (p .dy) step)
       → low j ≡ high j
   same-along j e =
       coordinate-is down step radius p j ∙ ap (λ (z : ℤ). pointAlong step p j +ℤ z) e ∙ sym (coordinate-is up step radius p j)

@@ -19,7 +19,7 @@ use Rattle.words.proofs.Runs.{length-joined, joined-word}
 use Rattle.cutter.specs.Map.{widthOf, depthOf, stepOf, radiusOf}
 use Rattle.cutter.specs.Centre.{Centre, recordBytes}
 use Rattle.cutter.specs.List.{countOf, centreAt, recordAt, trailerBytes, listLength, listBytes}
-use Rattle.cutter.specs.Call.{listRefusal, bufferAfter}
+use Rattle.cutter.specs.Call.{listRefusal, listAnswer, bufferAfter}
 use Rattle.cutter.specs.Agree.{entryAt, innerPoint}
 use Rattle.bracket.specs.Bracket.{coordinate, ListHeld}
 use Rattle.bracket.proofs.Centre.{coordinate-small}
@@ -52,6 +52,7 @@ record-entry k h j l = ap signed (word-at j l) ∙ signed-word (coordinate k j) 
   where
     words : (wordAt (recordBytes k) 0 ≡ wordOf (k .x)) × (wordAt (recordBytes k) 4 ≡ wordOf (k .y)) × (wordAt (recordBytes k) 8 ≡ wordOf (k .z))
     words = unfold recordBytes in three-back (wordOf (k .x)) (wordOf (k .y)) (wordOf (k .z)) (word-small (k .x) (h 0)) (word-small (k .y) (h 1)) (word-small (k .z) (h 2))
+
     word-at : (j : ℕ) → j < 3 → wordAt (recordBytes k) (4 * j) ≡ wordOf (coordinate k j)
     word-at zero l = words .0
     word-at (suc zero) l = words .1
@@ -86,6 +87,10 @@ unfolding centreAt
 centre-small mode m room a n h j =
     coordinate-small (stepOf m) (radiusOf m) (innerPoint m n) (inner-in-range m room a n h) mode j
 
+accepted-answer : (rounding : ℕ) (m : List ℕ) (room : ℕ) → listRefusal rounding m room ≡ 0 → listAnswer rounding m room ≡ listLength m
+unfolding listAnswer
+accepted-answer rounding m room e = rw e
+
 module _ (rounding : ℕ) (m out : List ℕ) (e : listRefusal rounding m (length out) ≡ 0) where
   entry-is : (n j : ℕ) → n < countOf (widthOf m) (depthOf m) → j < 3
       → entryAt (bufferAfter rounding m out) n j ≡ coordinate (centreAt (modeOf rounding) m n) j
@@ -99,6 +104,7 @@ module _ (rounding : ℕ) (m out : List ℕ) (e : listRefusal rounding m (length
   pub list-held : ListHeld rounding m out
   list-held =
       record {
+        reported = accepted-answer rounding m (length out) e;
         front = rw (accepted-buffer rounding m out e, ← length-list (modeOf rounding) m) (splice-take (listBytes (modeOf rounding) m) out);
         behind = rw (accepted-buffer rounding m out e, ← length-list (modeOf rounding) m) (splice-drop (listBytes (modeOf rounding) m) out);
         entry = entry-is;
