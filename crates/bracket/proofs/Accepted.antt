@@ -1,23 +1,23 @@
 -- What an accepted map is known to hold: its ranges, and those of each inner point. Assumes nothing.
-use mathlib.Core.Path.{_≡_, refl, sym, ap, _∙_}
-use mathlib.Core.Bool.{Bool, true, false, true≢false, cond, _&&_}
+use mathlib.Core.Path.{_≡_, refl, sym}
+use mathlib.Core.Bool.{Bool, true, false, true≢false, _&&_}
 use mathlib.Core.List.{List}
 use mathlib.Core.Logic.{by-cases}
 use Prim.Native.Nat.{ℕ, zero, suc, _+_, _-_, _*_, _/_, _%_, _≤_, _<_}
-use native.Mathlib.Nat.{mul-le-mul, mul-le-mul-right, mod-lt, div-lt-iff-lt-mul, not-suc-le-zero}
+use native.Mathlib.Nat.{mul-le-mul-right, mod-lt, div-lt-iff-lt-mul, not-suc-le-zero}
 use native.Mathlib.Decide.{decLt}
 use native.Mathlib.Omega.{arith}
-use borrow.Author.Tests.{leb-true, eqb-true}
-use lib.Dec.{leb, ltb, eqb}
+use borrow.Author.Tests.{leb-true}
+use lib.Dec.{leb, eqb}
 use lib.ListN.{length}
-use lib.IntN.{ℤ, pos, negsuc, negℤ, natAbs, subℕ, _+ℤ_, _-ℤ_}
+use lib.IntN.{ℤ, negℤ, natAbs, _-ℤ_}
 use Rattle.kinds.specs.Question.{ask}
 use Rattle.kinds.specs.Rounding.{isRounding}
 use Rattle.words.specs.Word.{wordAt, readsAt}
 use Rattle.words.specs.Signed.{signed}
 use Rattle.words.proofs.Differences.{abs-neg}
 use Rattle.cutter.specs.Map.{plt1, trailerAt, distanceOf, widthOf, depthOf, stepOf, radiusOf, heightAt, acrossAt, alongAt}
-use Rattle.cutter.specs.Centre.{Point, pointAt}
+use Rattle.cutter.specs.Centre.{pointAt}
 use Rattle.cutter.specs.List.{countOf, listLength}
 use Rattle.cutter.specs.Call.{within, heightsWithin, listRefusal}
 use Rattle.cutter.specs.Agree.{innerPoint}
@@ -25,6 +25,7 @@ use Rattle.bracket.proofs.Centre.{InRange, abs-add}
 
 -- ---- the questions
 
+-- tests that passed
 both-true : (a b : Bool) → a && b ≡ true → (a ≡ true) × (b ≡ true)
 both-true true b e = (refl, e)
 both-true false b e = absurd (true≢false (sym e))
@@ -34,7 +35,7 @@ within-true low high x e =
     let p = both-true (leb low x) (leb x high) e in
     (leb-true low x (p .0), leb-true x high (p .1))
 
--- no question before it said "no", so this one and the rest did not
+-- where no question says "no", the first is answered yes, and none of the rest says it
 ask-zero : (t : Bool) (n rest : ℕ) → ask t (suc n) rest ≡ 0 → (t ≡ true) × (rest ≡ 0)
 unfolding ask
 ask-zero true n rest e = (refl, e)
@@ -51,6 +52,7 @@ small m (suc n) e i h =
     let j : i ≡ n = omega arith in
     rw j (leb-true (natAbs (signed (wordAt m (4 * n)))) 50000 (p .1)))
 
+-- the ranges that the questions leave
 pub record Accepted (m : List ℕ) (room : ℕ) : Type 0 where
   pub width-from : 3 ≤ widthOf m
   pub width-to : widthOf m ≤ 64
@@ -63,6 +65,7 @@ pub record Accepted (m : List ℕ) (room : ℕ) : Type 0 where
   pub heights : (i : ℕ) → i < widthOf m * depthOf m → natAbs (signed (wordAt m (4 * i))) ≤ 50000
   pub fits : listLength m ≤ room
 
+-- no "no": every range holds
 pub accepted-of : (rounding : ℕ) (m : List ℕ) (room : ℕ) → listRefusal rounding m room ≡ 0 → Accepted m room
 unfolding listRefusal
 accepted-of rounding m room e =
@@ -97,6 +100,7 @@ accepted-of rounding m room e =
 
 -- ---- an inner point
 
+-- the magnitude of a difference
 abs-sub : (a b : ℤ) → natAbs (a -ℤ b) ≤ natAbs a + natAbs b
 abs-sub a b = omega (arith, abs-add a (negℤ b), abs-neg b)
 
@@ -105,9 +109,15 @@ inside : (w d c q : ℕ) → c < w → q < d → q * w + c < w * d
 inside w d c q hc hq = omega (arith, mul-le-mul-right w hq)
 
 module _ (m : List ℕ) (room : ℕ) (a : Accepted m room) where
+  -- heights of the map are small, and their differences
   height-small : (c q : ℕ) → c < widthOf m → q < depthOf m → natAbs (heightAt m (widthOf m) c q) ≤ 50000
   unfolding heightAt
   height-small c q hc hq = a .heights (q * widthOf m + c) (inside (widthOf m) (depthOf m) c q hc hq)
+
+  apart-small : (c q k r : ℕ) → c < widthOf m → q < depthOf m → k < widthOf m → r < depthOf m
+      → natAbs (heightAt m (widthOf m) c q -ℤ heightAt m (widthOf m) k r) ≤ 100000
+  apart-small c q k r hc hq hk hr =
+      omega (arith, abs-sub (heightAt m (widthOf m) c q) (heightAt m (widthOf m) k r), height-small c q hc hq, height-small k r hk hr)
 
   -- the inner point n is in range
   pub inner-in-range : (n : ℕ) → n < countOf (widthOf m) (depthOf m) → InRange (stepOf m) (radiusOf m) (innerPoint m n)
@@ -128,6 +138,6 @@ module _ (m : List ℕ) (room : ℕ) (a : Accepted m room) where
         column-to = omega (arith, a .width-to);
         row-to = omega (arith, a .depth-to);
         height-to = height-small c q (omega arith) (omega arith);
-        dx-to = omega (arith, abs-sub (heightAt m w (c + 1) q) (heightAt m w (c - 1) q), height-small (c + 1) q (omega arith) (omega arith), height-small (c - 1) q (omega arith) (omega arith));
-        dy-to = omega (arith, abs-sub (heightAt m w c (q + 1)) (heightAt m w c (q - 1)), height-small c (q + 1) (omega arith) (omega arith), height-small c (q - 1) (omega arith) (omega arith));
+        dx-to = apart-small (c + 1) q (c - 1) q (omega arith) (omega arith) (omega arith) (omega arith);
+        dy-to = apart-small c (q + 1) c (q - 1) (omega arith) (omega arith) (omega arith) (omega arith);
       }

@@ -1,22 +1,21 @@
 -- Down and up for the list: two lists of one map are equal exactly where the map is exact, and two entries that differ are neighbours.
 -- Assumes nothing.
-use mathlib.Core.Path.{_≡_, refl, sym, ap, _∙_}
+use mathlib.Core.Path.{_≡_, sym, ap, _∙_}
 use mathlib.Core.List.{List, _++_}
 use mathlib.Core.Logic.{_↔_}
 use Prim.Native.Nat.{ℕ, _*_, _<_}
-use lib.ListN.{length, take}
+use lib.ListN.{length}
 use lib.IntN.{ℤ, pos, _+ℤ_}
-use Rattle.kinds.specs.Rounding.{Mode, up, down}
+use Rattle.kinds.specs.Rounding.{up, down}
 use Rattle.words.specs.Word.{wordAt}
 use Rattle.words.specs.Signed.{signed}
-use Rattle.words.specs.Joined.{joined}
 use Rattle.words.proofs.Runs.{joined-same, joined-apart}
 use Rattle.cutter.specs.Map.{widthOf, depthOf, stepOf, radiusOf}
-use Rattle.cutter.specs.Centre.{Centre, recordBytes}
-use Rattle.cutter.specs.List.{countOf, centreAt, recordAt, trailerBytes, listLength, listBytes}
-use Rattle.cutter.specs.Call.{listRefusal, bufferAfter}
-use Rattle.cutter.specs.Agree.{ExactAt, ExactMap, entryAt, innerPoint}
-use Rattle.bracket.specs.Bracket.{coordinate, CentreBracket, ListHeld, ListBracket}
+use Rattle.cutter.specs.Centre.{recordBytes}
+use Rattle.cutter.specs.List.{countOf, centreAt, recordAt, trailerBytes, listBytes}
+use Rattle.cutter.specs.Call.{listRefusal}
+use Rattle.cutter.specs.Agree.{ExactMap, innerPoint}
+use Rattle.bracket.specs.Bracket.{coordinate, CentreBracket, ListBracket}
 use Rattle.bracket.proofs.Centre.{same-centre, centre-bracket}
 use Rattle.bracket.proofs.Accepted.{Accepted, accepted-of, inner-in-range}
 use Rattle.bracket.proofs.Entries.{length-record, record-entry, centre-small, list-held}
@@ -42,13 +41,16 @@ module _ (m : List ℕ) (room : ℕ) (a : Accepted m room) where
       ap (λ (s : List ℕ). s ++ trailerBytes (12 * c) (widthOf m) (depthOf m) (stepOf m) (radiusOf m))
       (joined-same (recordAt down m) (recordAt up m) c (λ n h. ap recordBytes (e n h)))
 
+  -- the bracket of each centre
   at-point : (n : ℕ) → n < countOf (widthOf m) (depthOf m) → CentreBracket (stepOf m) (radiusOf m) (innerPoint m n)
   at-point n h = centre-bracket (stepOf m) (radiusOf m) (innerPoint m n) (inner-in-range m room a n h)
 
+  -- the lists are equal where the map is exact
   lists-equal : (listBytes down m ≡ listBytes up m) ↔ ExactMap m
   unfolding centreAt
   lists-equal = (λ e n h. at-point n h .equal .0 (same-centres e n h), λ x. same-bytes (λ n h. at-point n h .equal .1 (x n h)))
 
+  -- coordinates that differ are one apart
   entries-next : (n j : ℕ) → n < countOf (widthOf m) (depthOf m)
       → (coordinate (centreAt down m n) j ≡ coordinate (centreAt up m n) j → ⊥)
       → coordinate (centreAt up m n) j ≡ coordinate (centreAt down m n) j +ℤ pos 1

@@ -1,9 +1,9 @@
 -- One centre, rounded down and up: both are equal exactly where the point is exact, and a coordinate that differs is larger by one
 -- in the upper. Assumes nothing.
-use mathlib.Core.Path.{_≡_, refl, sym, ap, subst, _∙_}
-use mathlib.Core.Logic.{_⊎_, inl, inr}
+use mathlib.Core.Path.{_≡_, refl, sym, ap, _∙_}
+use mathlib.Core.Logic.{inl, inr}
 use mathlib.Core.Bool.{Bool, true, false, cond}
-use Prim.Native.Nat.{ℕ, zero, suc, _+_, _-_, _*_, _^_, _≤_, _<_}
+use Prim.Native.Nat.{ℕ, zero, suc, _+_, _-_, _*_, _≤_, _<_}
 use native.Mathlib.Nat.{mul-le-mul, mul-pos}
 use native.Mathlib.Omega.{arith}
 use lib.Dec.{lit<, ltb}
@@ -11,7 +11,7 @@ use lib.IntN.{ℤ, pos, negsuc, negℤ, natAbs, subℕ, _+ℤ_, +ℤ-assoc, +ℤ
 use Rattle.kinds.specs.Rounding.{Mode, up, down}
 use Rattle.numbers.proofs.Squares.{square-same}
 use Rattle.words.proofs.Differences.{abs-neg}
-use Rattle.offset.specs.Offset.{squaredLength, offsetOf, MultipleOf, DividedBy}
+use Rattle.offset.specs.Offset.{squaredLength, offsetOf, MultipleOf}
 use Rattle.cutter.specs.Centre.{Point, Centre, centreOf}
 use Rattle.cutter.specs.Agree.{ExactAt}
 use Rattle.bracket.specs.Bracket.{WholeOver, coordinate, OffsetBracket, CentreBracket}
@@ -43,8 +43,13 @@ normalAlong step p zero = negℤ (p .dx)
 normalAlong step p (suc zero) = negℤ (p .dy)
 normalAlong step p (suc (suc j)) = pos (2 * step)
 
+-- the squared length of the normal
+abbrev pub lengthAt : ℕ → Point → ℕ
+lengthAt step p = squaredLength (p .dx) (p .dy) step
+
+-- a coordinate of a centre is the map point's plus the offset
 pub coordinate-is : (mode : Mode) (step radius : ℕ) (p : Point) (j : ℕ)
-    → coordinate (centreOf mode step radius p) j ≡ pointAlong step p j +ℤ offsetOf mode (normalAlong step p j) radius (squaredLength (p .dx) (p .dy) step)
+    → coordinate (centreOf mode step radius p) j ≡ pointAlong step p j +ℤ offsetOf mode (normalAlong step p j) radius (lengthAt step p)
 unfolding centreOf
 coordinate-is mode step radius p zero = refl
 coordinate-is mode step radius p (suc zero) = refl
@@ -54,19 +59,19 @@ coordinate-is mode step radius p (suc (suc j)) = refl
 pub same-centre : (a b : Centre) → ((j : ℕ) → j < 3 → coordinate a j ≡ coordinate b j) → a ≡ b
 same-centre a b h = λ i. record { x = h 0 (lit< tt) i; y = h 1 (lit< tt) i; z = h 2 (lit< tt) i }
 
--- the magnitude of a sum is at most the sum of the magnitudes
-pub abs-add : (a b : ℤ) → natAbs (a +ℤ b) ≤ natAbs a + natAbs b
-abs-add (pos a) (pos b) = omega arith
-abs-add (pos a) (negsuc b) = by-order (ltb a (suc b))
+-- the magnitude of a difference of naturals is at most their sum
+abs-less : (a b : ℕ) → natAbs (subℕ a (suc b)) ≤ a + suc b
+abs-less a b = by-order (ltb a (suc b))
   where
     by-order : (t : Bool) → natAbs (cond t (negsuc (suc b - suc a)) (pos (a - suc b))) ≤ a + suc b
     by-order true = omega arith
     by-order false = omega arith
-abs-add (negsuc a) (pos b) = by-order (ltb b (suc a))
-  where
-    by-order : (t : Bool) → natAbs (cond t (negsuc (suc a - suc b)) (pos (b - suc a))) ≤ suc a + b
-    by-order true = omega arith
-    by-order false = omega arith
+
+-- so the magnitude of a sum is at most the sum of the magnitudes
+pub abs-add : (a b : ℤ) → natAbs (a +ℤ b) ≤ natAbs a + natAbs b
+abs-add (pos a) (pos b) = omega arith
+abs-add (pos a) (negsuc b) = abs-less a b
+abs-add (negsuc a) (pos b) = omega (arith, abs-less b a)
 abs-add (negsuc a) (negsuc b) = omega arith
 
 -- a summand in front is cancelled
@@ -88,9 +93,11 @@ multiple-whole : (q n w : ℕ) → w * w ≡ q → MultipleOf w n → WholeOver 
 multiple-whole q n w s d = inr (record { root = w; square = s; multiple = d })
 
 module _ (step radius : ℕ) (p : Point) (h : InRange step radius p) where
-  length-pos : 0 < squaredLength (p .dx) (p .dy) step
+  -- the normal is not 0
+  length-pos : 0 < lengthAt step p
   length-pos = omega (arith, mul-pos (h .step-from) (h .step-from))
 
+  -- each component times the radius, and each coordinate of the map point, is small
   product-to : (j : ℕ) → natAbs (normalAlong step p j) * radius ≤ 1250000000
   product-to zero = rw (abs-neg (p .dx)) (omega (arith, mul-le-mul (h .dx-to) (h .radius-to)))
   product-to (suc zero) = rw (abs-neg (p .dy)) (omega (arith, mul-le-mul (h .dy-to) (h .radius-to)))
@@ -104,38 +111,42 @@ module _ (step radius : ℕ) (p : Point) (h : InRange step radius p) where
   -- every coordinate is a signed number of 32 bits
   pub coordinate-small : (mode : Mode) (j : ℕ) → natAbs (coordinate (centreOf mode step radius p) j) < 2147483648
   coordinate-small mode j =
-      let q = squaredLength (p .dx) (p .dy) step in
+      let q = lengthAt step p in
       let o = offsetOf mode (normalAlong step p j) radius q in
       rw (coordinate-is mode step radius p j)
       (omega (arith, abs-add (pointAlong step p j) o, point-to j, offset-small (normalAlong step p j) radius q mode length-pos, product-to j))
 
+  -- the lower and the upper coordinates
   abbrev low : ℕ → ℤ
   low j = coordinate (centreOf down step radius p) j
 
   abbrev high : ℕ → ℤ
   high j = coordinate (centreOf up step radius p) j
 
+  -- a whole offset
   abbrev Along : ℕ → Type 0
-  Along j = WholeOver (squaredLength (p .dx) (p .dy) step) (natAbs (normalAlong step p j) * radius)
+  Along j = WholeOver (lengthAt step p) (natAbs (normalAlong step p j) * radius)
 
-  along : (j : ℕ) → OffsetBracket (normalAlong step p j) radius (squaredLength (p .dx) (p .dy) step)
-  along j = offset-bracket (normalAlong step p j) radius (squaredLength (p .dx) (p .dy) step) length-pos (omega (arith, product-to j))
+  -- the bracket of each offset
+  along : (j : ℕ) → OffsetBracket (normalAlong step p j) radius (lengthAt step p)
+  along j = offset-bracket (normalAlong step p j) radius (lengthAt step p) length-pos (omega (arith, product-to j))
 
   -- coordinates are equal where the offsets are
   same-along : (j : ℕ)
-      → offsetOf down (normalAlong step p j) radius (squaredLength (p .dx) (p .dy) step)
-      ≡ offsetOf up (normalAlong step p j) radius (squaredLength (p .dx) (p .dy) step)
+      → offsetOf down (normalAlong step p j) radius (lengthAt step p) ≡ offsetOf up (normalAlong step p j) radius (lengthAt step p)
       → low j ≡ high j
   same-along j e =
       coordinate-is down step radius p j ∙ ap (λ (z : ℤ). pointAlong step p j +ℤ z) e ∙ sym (coordinate-is up step radius p j)
 
+  -- a coordinate that differs is one more
   next-along : (j : ℕ) → (low j ≡ high j → ⊥) → high j ≡ low j +ℤ pos 1
   next-along j n =
       coordinate-is up step radius p j
       ∙ ap (λ (z : ℤ). pointAlong step p j +ℤ z) (along j .next (λ e. n (same-along j e)))
-      ∙ sym (+ℤ-assoc (pointAlong step p j) (offsetOf down (normalAlong step p j) radius (squaredLength (p .dx) (p .dy) step)) (pos 1))
+      ∙ sym (+ℤ-assoc (pointAlong step p j) (offsetOf down (normalAlong step p j) radius (lengthAt step p)) (pos 1))
       ∙ ap (λ (z : ℤ). z +ℤ pos 1) (sym (coordinate-is down step radius p j))
 
+  -- equal coordinates have a whole offset
   whole-along : (j : ℕ) → low j ≡ high j → Along j
   whole-along j e =
       along j .equal .0
@@ -156,15 +167,16 @@ module _ (step radius : ℕ) (p : Point) (h : InRange step radius p) where
             along-z = d .multiple;
           }
 
-  same-of : ExactAt step radius p → (j : ℕ) → low j ≡ high j
-  same-of x zero = same-along 0 (along 0 .equal .1 (multiple-whole _ _ (x .root) (x .square) (rw (abs-neg (p .dx)) (x .along-x))))
-  same-of x (suc zero) = same-along 1 (along 1 .equal .1 (multiple-whole _ _ (x .root) (x .square) (rw (abs-neg (p .dy)) (x .along-y))))
-  same-of x (suc (suc j)) = same-along 2 (along 2 .equal .1 (multiple-whole _ _ (x .root) (x .square) (x .along-z)))
+  -- at an exact point each offset is whole
+  exact-along : ExactAt step radius p → (j : ℕ) → Along j
+  exact-along x zero = multiple-whole _ _ (x .root) (x .square) (rw (abs-neg (p .dx)) (x .along-x))
+  exact-along x (suc zero) = multiple-whole _ _ (x .root) (x .square) (rw (abs-neg (p .dy)) (x .along-y))
+  exact-along x (suc (suc j)) = multiple-whole _ _ (x .root) (x .square) (x .along-z)
 
   -- down and up of one centre
   pub centre-bracket : CentreBracket step radius p
   centre-bracket =
       record {
-        equal = (λ e. exact-of (λ j. ap (λ (k : Centre). coordinate k j) e), λ x. same-centre _ _ (λ j l. same-of x j));
+        equal = (λ e. exact-of (λ j. ap (λ (k : Centre). coordinate k j) e), λ x. same-centre _ _ (λ j l. same-along j (along j .equal .1 (exact-along x j))));
         next = next-along;
       }

@@ -1,13 +1,10 @@
 -- What the lent buffer holds after an accepted call: each entry of the list is a coordinate of its centre. Assumes nothing.
-use mathlib.Core.Path.{_≡_, refl, sym, ap, _∙_}
-use mathlib.Core.Bool.{Bool, true, cond}
+use mathlib.Core.Path.{_≡_, refl, ap, _∙_}
 use mathlib.Core.List.{List, _++_, append-assoc}
-use Prim.Native.Nat.{ℕ, zero, suc, _+_, _*_, _≤_, _<_}
-use native.Mathlib.Nat.{mul-comm}
+use Prim.Native.Nat.{ℕ, zero, suc, _+_, _*_, _<_}
 use native.Mathlib.Omega.{arith}
-use lib.Dec.{eqb}
-use lib.ListN.{length, take, drop, length-append}
-use lib.IntN.{ℤ, natAbs}
+use lib.ListN.{length, drop, length-append}
+use lib.IntN.{natAbs}
 use Rattle.kinds.specs.Rounding.{Mode, modeOf}
 use Rattle.words.specs.Word.{wordAt, wordBytes, halfBytes}
 use Rattle.words.specs.Signed.{signed, wordOf}
@@ -27,6 +24,7 @@ use Rattle.bracket.proofs.Accepted.{Accepted, accepted-of, inner-in-ran
 
 -- ---- lengths
 
+-- a record, a trailer and a list
 pub length-record : (mode : Mode) (m : List ℕ) (n : ℕ) → length (recordAt mode m n) ≡ 12
 unfolding recordAt recordBytes wordBytes
 length-record mode m n = refl
@@ -61,6 +59,7 @@ record-entry k h j l = ap signed (word-at j l) ∙ signed-word (coordinate k j) 
 
 -- ---- the buffer
 
+-- an accepted call puts the list over the buffer's front
 accepted-buffer : (rounding : ℕ) (m out : List ℕ) → listRefusal rounding m (length out) ≡ 0
     → bufferAfter rounding m out ≡ splice 0 (listBytes (modeOf rounding) m) out
 unfolding bufferAfter
@@ -87,11 +86,13 @@ unfolding centreAt
 centre-small mode m room a n h j =
     coordinate-small (stepOf m) (radiusOf m) (innerPoint m n) (inner-in-range m room a n h) mode j
 
+-- and reports its length
 accepted-answer : (rounding : ℕ) (m : List ℕ) (room : ℕ) → listRefusal rounding m room ≡ 0 → listAnswer rounding m room ≡ listLength m
 unfolding listAnswer
 accepted-answer rounding m room e = rw e
 
 module _ (rounding : ℕ) (m out : List ℕ) (e : listRefusal rounding m (length out) ≡ 0) where
+  -- entry j of record n
   entry-is : (n j : ℕ) → n < countOf (widthOf m) (depthOf m) → j < 3
       → entryAt (bufferAfter rounding m out) n j ≡ coordinate (centreAt (modeOf rounding) m n) j
   unfolding recordAt

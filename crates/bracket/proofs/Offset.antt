@@ -2,21 +2,20 @@
 use mathlib.Core.Path.{_≡_, refl, sym, ap, _∙_}
 use mathlib.Core.Logic.{_⊎_, inl, inr, by-cases}
 use mathlib.Core.Bool.{Bool, true, false, cond, not}
-use Prim.Native.Nat.{ℕ, zero, suc, _+_, _*_, _%_, _^_, _≤_, _<_}
+use Prim.Native.Nat.{ℕ, zero, suc, _*_, _%_, _^_, _≤_, _<_}
 use native.Mathlib.Nat.{mul-le-mul, mul-le-mul-left, mul-le-mul-right, mul-pos, eq-zero-or-pos}
 use native.Mathlib.Numerals.{add-one}
 use native.Mathlib.Decide.{ℕ-discrete, decLt}
 use native.Mathlib.Omega.{arith}
 use borrow.Author.Tests.{eq-eqb, ne-eqb}
 use lib.Dec.{eqb, leb→le, le→leb}
-use lib.IntN.{ℤ, pos, negsuc, negℤ, natAbs, sucℤ, _+ℤ_, +ℤ-one}
-use Rattle.kinds.specs.Rounding.{Mode, up, down, Place, exact, below, half, above, away, placeBy, roundedBy}
-use Rattle.numbers.specs.Greatest.{greatest}
+use lib.IntN.{ℤ, pos, negsuc, natAbs, sucℤ, _+ℤ_, +ℤ-one}
+use Rattle.kinds.specs.Rounding.{Mode, up, down, below, half, above, away, placeBy, roundedBy}
 use Rattle.numbers.proofs.Greatest.{greatest-found, greatest-above, squareFits, square-antitone}
 use Rattle.numbers.proofs.Squares.{square-rising, square-same, square-part}
 use Rattle.words.specs.Signed.{withSign, isNegative}
 use Rattle.words.proofs.Differences.{abs-sign}
-use Rattle.offset.specs.Offset.{floorOver, placeOver, roundedOver, offsetOf, MultipleOf, DividedBy}
+use Rattle.offset.specs.Offset.{floorOver, placeOver, roundedOver, offsetOf}
 use Rattle.bracket.specs.Bracket.{WholeOver, OffsetBracket}
 
 -- ---- the floor
@@ -102,6 +101,7 @@ inexact-up negative odd true c = refl
 inexact-up negative odd false true = refl
 inexact-up negative odd false false = refl
 
+-- so their magnitudes are
 rounded-down : (negative : Bool) (n q : ℕ) → (Reached n q → ⊥) → roundedOver down negative n q ≡ cond negative (suc (floorOver n q)) (floorOver n q)
 unfolding roundedOver roundedBy placeOver placeBy
 rounded-down negative n q h = rw (ne-eqb _ _ h, inexact-down)
@@ -121,6 +121,7 @@ rounded-small mode negative n q = go (away mode negative (eqb (floorOver n q % 2
 
 -- ---- the two roundings of an offset
 
+-- with the sign put on, up is one above down
 one-above : (negative : Bool) (t : ℕ) → withSign negative (cond (not negative) (suc t) t) ≡ withSign negative (cond negative (suc t) t) +ℤ pos 1
 unfolding withSign
 one-above false t = ap pos (sym (add-one t))
@@ -137,6 +138,7 @@ not-next z e = differ z (ap natAbs (e ∙ +ℤ-one z))
     differ (negsuc (suc n)) h = omega arith
 
 module _ (component : ℤ) (radius q : ℕ) where
+  -- at an exact floor the offsets are equal, and anywhere else one apart
   offsets-same : Reached (natAbs component * radius) q → offsetOf down component radius q ≡ offsetOf up component radius q
   unfolding offsetOf
   offsets-same e = rw (rounded-exact down _ _ _ e, rounded-exact up _ _ _ e)
