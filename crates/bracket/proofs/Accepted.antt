@@ -18,7 +18,7 @@ use Rattle.words.specs.Signed.{signed}
 use Rattle.words.proofs.Differences.{abs-neg}
 use Rattle.cutter.specs.Map.{plt1, trailerAt, distanceOf, widthOf, depthOf, stepOf, radiusOf, heightAt, acrossAt, alongAt}
 use Rattle.cutter.specs.Centre.{pointAt}
-use Rattle.cutter.specs.List.{countOf, listLength}
+use Rattle.cutter.specs.List.{countOf}
 use Rattle.cutter.specs.Call.{within, heightsWithin, listRefusal}
 use Rattle.cutter.specs.Agree.{innerPoint}
 use Rattle.bracket.proofs.Centre.{InRange, abs-add}
@@ -53,7 +53,7 @@ small m (suc n) e i h =
     rw j (leb-true (natAbs (signed (wordAt m (4 * n)))) 50000 (p .1)))
 
 -- the ranges that the questions leave
-pub record Accepted (m : List ℕ) (room : ℕ) : Type 0 where
+pub record Accepted (m : List ℕ) : Type 0 where
   pub width-from : 3 ≤ widthOf m
   pub width-to : widthOf m ≤ 64
   pub depth-from : 3 ≤ depthOf m
@@ -63,10 +63,9 @@ pub record Accepted (m : List ℕ) (room : ℕ) : Type 0 where
   pub radius-from : 1 ≤ radiusOf m
   pub radius-to : radiusOf m ≤ 12500
   pub heights : (i : ℕ) → i < widthOf m * depthOf m → natAbs (signed (wordAt m (4 * i))) ≤ 50000
-  pub fits : listLength m ≤ room
 
 -- no "no": every range holds
-pub accepted-of : (rounding : ℕ) (m : List ℕ) (room : ℕ) → listRefusal rounding m room ≡ 0 → Accepted m room
+pub accepted-of : (rounding : ℕ) (m : List ℕ) (room : ℕ) → listRefusal rounding m room ≡ 0 → Accepted m
 unfolding listRefusal
 accepted-of rounding m room e =
     let w = widthOf m in
@@ -78,7 +77,6 @@ accepted-of rounding m room e =
     let a8 = ask-zero (within 1 10000 (stepOf m) && within 1 12500 (radiusOf m)) 7 _ (a7 .1) in
     let a9 = ask-zero (eqb (distanceOf m) (4 * (w * d)) && eqb (length m) (4 * (w * d) + 16)) 8 _ (a8 .1) in
     let a10 = ask-zero (heightsWithin m (w * d)) 9 _ (a9 .1) in
-    let a11 = ask-zero (leb (listLength m) room) 10 0 (a10 .1) in
     let sizes = both-true (within 3 64 w) (within 3 64 d) (a7 .0) in
     let scales = both-true (within 1 10000 (stepOf m)) (within 1 12500 (radiusOf m)) (a8 .0) in
     let wide = within-true 3 64 w (sizes .0) in
@@ -95,7 +93,6 @@ accepted-of rounding m room e =
       radius-from = radius .0;
       radius-to = radius .1;
       heights = small m (w * d) (a10 .0);
-      fits = leb-true (listLength m) room (a11 .0);
     }
 
 -- ---- an inner point
@@ -108,7 +105,7 @@ abs-sub a b = omega (arith, abs-add a (negℤ b), abs-neg b)
 inside : (w d c q : ℕ) → c < w → q < d → q * w + c < w * d
 inside w d c q hc hq = omega (arith, mul-le-mul-right w hq)
 
-module _ (m : List ℕ) (room : ℕ) (a : Accepted m room) where
+module _ (m : List ℕ) (a : Accepted m) where
   -- heights of the map are small, and their differences
   height-small : (c q : ℕ) → c < widthOf m → q < depthOf m → natAbs (heightAt m (widthOf m) c q) ≤ 50000
   unfolding heightAt

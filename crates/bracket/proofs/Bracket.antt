@@ -20,7 +20,7 @@ use Rattle.bracket.proofs.Centre.{same-centre, centre-bracket}
 use Rattle.bracket.proofs.Accepted.{Accepted, accepted-of, inner-in-range}
 use Rattle.bracket.proofs.Entries.{length-record, record-entry, centre-small, list-held}
 
-module _ (m : List ℕ) (room : ℕ) (a : Accepted m room) where
+module _ (m : List ℕ) (a : Accepted m) where
   -- the same bytes come from the same centres
   same-centres : listBytes down m ≡ listBytes up m → (n : ℕ) → n < countOf (widthOf m) (depthOf m) → centreAt down m n ≡ centreAt up m n
   unfolding listBytes recordAt
@@ -29,9 +29,9 @@ module _ (m : List ℕ) (room : ℕ) (a : Accepted m room) where
       joined-apart (recordAt down m) (recordAt up m) 12 (length-record down m) (length-record up m) (countOf (widthOf m) (depthOf m)) _ _ e n h in
       same-centre (centreAt down m n) (centreAt up m n)
       (λ j l.
-      sym (record-entry (centreAt down m n) (centre-small down m room a n h) j l)
+      sym (record-entry (centreAt down m n) (centre-small down m a n h) j l)
       ∙ ap (λ (s : List ℕ). signed (wordAt s (4 * j))) r
-      ∙ record-entry (centreAt up m n) (centre-small up m room a n h) j l)
+      ∙ record-entry (centreAt up m n) (centre-small up m a n h) j l)
 
   -- and the same centres give the same bytes
   same-bytes : ((n : ℕ) → n < countOf (widthOf m) (depthOf m) → centreAt down m n ≡ centreAt up m n) → listBytes down m ≡ listBytes up m
@@ -43,7 +43,7 @@ module _ (m : List ℕ) (room : ℕ) (a : Accepted m room) where
 
   -- the bracket of each centre
   at-point : (n : ℕ) → n < countOf (widthOf m) (depthOf m) → CentreBracket (stepOf m) (radiusOf m) (innerPoint m n)
-  at-point n h = centre-bracket (stepOf m) (radiusOf m) (innerPoint m n) (inner-in-range m room a n h)
+  at-point n h = centre-bracket (stepOf m) (radiusOf m) (innerPoint m n) (inner-in-range m a n h)
 
   -- the lists are equal where the map is exact
   lists-equal : (listBytes down m ≡ listBytes up m) ↔ ExactMap m
@@ -63,11 +63,11 @@ list-bracket m a b ea eb =
     let acc = accepted-of 2 m (length a) ea in
     let low = list-held 2 m a ea in
     let high = list-held 1 m b eb in
-    let eq = lists-equal m (length a) acc in
+    let eq = lists-equal m acc in
     record {
       equal = (λ e. eq .0 (sym (low .front) ∙ e ∙ high .front), λ x. low .front ∙ eq .1 x ∙ sym (high .front));
       next = λ n j h l d.
           let p = low .entry n j h l in
           let q = high .entry n j h l in
-          q ∙ entries-next m (length a) acc n j h (λ e. d (p ∙ e ∙ sym q)) ∙ ap (λ (z : ℤ). z +ℤ pos 1) (sym p);
+          q ∙ entries-next m acc n j h (λ e. d (p ∙ e ∙ sym q)) ∙ ap (λ (z : ℤ). z +ℤ pos 1) (sym p);
     }

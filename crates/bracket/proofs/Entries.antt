@@ -65,6 +65,11 @@ accepted-buffer : (rounding : ℕ) (m out : List ℕ) → listRefusal rounding m
 unfolding bufferAfter
 accepted-buffer rounding m out e = rw e
 
+-- and reports its length
+accepted-answer : (rounding : ℕ) (m : List ℕ) (room : ℕ) → listRefusal rounding m room ≡ 0 → listAnswer rounding m room ≡ listLength m
+unfolding listAnswer
+accepted-answer rounding m room e = rw e
+
 -- the word at byte 4·j of record n
 list-word : (mode : Mode) (m out : List ℕ) (n j : ℕ) → n < countOf (widthOf m) (depthOf m) → j < 3
     → wordAt (splice 0 (listBytes mode m) out) (12 * n + 4 * j) ≡ wordAt (recordAt mode m n) (4 * j)
@@ -80,16 +85,11 @@ list-word mode m out n j h l =
     ∙ joined-word f 12 (length-record mode m) c n (4 * j) (t ++ rest) h (omega arith)
 
 -- the centres of an accepted map have coordinates of 32 bits
-pub centre-small : (mode : Mode) (m : List ℕ) (room : ℕ) → Accepted m room → (n : ℕ) → n < countOf (widthOf m) (depthOf m)
+pub centre-small : (mode : Mode) (m : List ℕ) → Accepted m → (n : ℕ) → n < countOf (widthOf m) (depthOf m)
     → (j : ℕ) → natAbs (coordinate (centreAt mode m n) j) < 2147483648
 unfolding centreAt
-centre-small mode m room a n h j =
-    coordinate-small (stepOf m) (radiusOf m) (innerPoint m n) (inner-in-range m room a n h) mode j
-
--- and reports its length
-accepted-answer : (rounding : ℕ) (m : List ℕ) (room : ℕ) → listRefusal rounding m room ≡ 0 → listAnswer rounding m room ≡ listLength m
-unfolding listAnswer
-accepted-answer rounding m room e = rw e
+centre-small mode m a n h j =
+    coordinate-small (stepOf m) (radiusOf m) (innerPoint m n) (inner-in-range m a n h) mode j
 
 module _ (rounding : ℕ) (m out : List ℕ) (e : listRefusal rounding m (length out) ≡ 0) where
   -- entry j of record n
@@ -99,7 +99,7 @@ module _ (rounding : ℕ) (m out : List ℕ) (e : listRefusal rounding m (length
   entry-is n j h l =
       ap (λ (s : List ℕ). entryAt s n j) (accepted-buffer rounding m out e)
       ∙ ap signed (list-word (modeOf rounding) m out n j h l)
-      ∙ record-entry (centreAt (modeOf rounding) m n) (centre-small (modeOf rounding) m (length out) (accepted-of rounding m (length out) e) n h) j l
+      ∙ record-entry (centreAt (modeOf rounding) m n) (centre-small (modeOf rounding) m (accepted-of rounding m (length out) e) n h) j l
 
   -- what an accepted call leaves
   pub list-held : ListHeld rounding m out

@@ -55,7 +55,6 @@ whole-reached q n hq hn (inr d) = by-root (eq-zero-or-pos (d .root))
     by-root : (d .root ≡ 0) ⊎ (0 < d .root) → Reached n q
     by-root (inl z) = let s : d .root * d .root ≡ 0 = rw z in omega (arith, d .square)
     by-root (inr p) =
-        let w = d .root in
         let k = d .multiple .quotient in
         let short : k ≤ n = omega (arith, mul-le-mul-left k p, d .multiple .is) in
         let s : k * k * q ≡ n * n = omega (arith, ap (λ (x : ℕ). x * x) (d .multiple .is), ap (λ (x : ℕ). k * k * x) (d .square)) in
