@@ -1,65 +1,66 @@
--- Orders of squares and of products of squares. Assumes nothing.
-use mathlib.Core.Path.{_≡_}
-use mathlib.Core.List.{[], _∷_}
+-- Squares of whole numbers: their order, and that a square part can be taken out of a square. Assumes nothing.
+use mathlib.Core.Path.{_≡_, sym, ap}
 use mathlib.Core.Logic.{by-cases}
-use Prim.Native.Nat.{ℕ, zero, suc, _+_, _*_, _-_, _^_, _≤_, _<_}
-use native.Mathlib.Nat.{mul-le-mul, mul-le-mul-left, mul-le-mul-right, mul-lt-mul-of-pos-left, lt-of-mul-lt-mul-left, mul-pos}
-use native.Mathlib.Decide.{decLt}
+use Prim.Native.Nat.{ℕ, zero, suc, _+_, _*_, _-_, _/_, _%_, _≤_, _<_}
+use native.Mathlib.Nat.{mul-le-mul, mod-lt, div-add-mod', le-of-mul-le-mul-left, eq-of-mul-eq-mul-left, mul-pos}
+use native.Mathlib.Decide.{decLt, ℕ-discrete}
 use native.Mathlib.Omega.{arith}
-use lib.Dec.{leb→le, le→leb}
-use Rattle.numbers.specs.Greatest.{greatest}
-use Rattle.numbers.proofs.Greatest.{Found, greatest-found, squareFits}
-use Rattle.numbers.proofs.Ring.{v, _⊗_, poly}
 
--- the smaller square is that of the smaller number
-pub square-lt : {a b : ℕ} → a * a < b * b → a < b
-square-lt {a} {b} h = by-cases (decLt a b) (λ l. l) (λ l. absurd (omega (arith, mul-le-mul {n₁ = b} {m₁ = b} {n₂ = a} {m₂ = a} (omega arith) (omega arith))))
+-- c is the square of a whole number
+pub record PerfectSquare (c : ℕ) : Type 0 where
+  pub root : ℕ
+  pub is : root * root ≡ c
 
--- an order of multiples is an order of the numbers, here with another multiple of both sides known
-pub cancel-lt : (c d : ℕ) {l r m n : ℕ} → 0 < d → c * l ≡ d * m → c * r ≡ d * n → m < n → l < r
-cancel-lt c d p e f h = lt-of-mul-lt-mul-left c (omega (arith, mul-lt-mul-of-pos-left h p))
+-- squares rise with their roots
+pub square-rising : {v w : ℕ} → v < w → v * v < w * w
+square-rising {v} {w} h = omega (arith, mul-le-mul h h)
 
--- a x² ≤ b and c y² < d make a c e² < b d, for e at most x y
-pub squares-below : (a c x y : ℕ) {b d e : ℕ} → a * (x * x) ≤ b → c * (y * y) < d → e ≤ x * y → 0 < b → a * c * (e * e) < b * d
-squares-below a c x y {b} {d} {e} h l f p =
-    let i : a * c * (e * e) ≤ a * c * (x * y * (x * y)) = mul-le-mul-left (a * c) (mul-le-mul f f) in
-    let j : a * c * (x * y * (x * y)) ≡ a * (x * x) * (c * (y * y)) =
-    poly (a ∷ c ∷ x ∷ y ∷ []) (v 0 ⊗ v 1 ⊗ (v 2 ⊗ v 3 ⊗ (v 2 ⊗ v 3))) (v 0 ⊗ (v 2 ⊗ v 2) ⊗ (v 1 ⊗ (v 3 ⊗ v 3))) tt tt in
-    let m : a * (x * x) * (c * (y * y)) ≤ b * (c * (y * y)) = mul-le-mul h (omega arith) in
-    omega (arith, i, j, m, mul-lt-mul-of-pos-left l p)
+-- a smaller square has a smaller root
+pub square-below : (v w : ℕ) → v * v < w * w → v < w
+square-below v w h = by-cases (decLt v w) (λ l. l) (λ l. omega (arith, mul-le-mul {n₁ = w} {m₁ = w} {n₂ = v} {m₂ = v} (omega arith) (omega arith)))
 
--- b ≤ a x² and d < c y² make b d < a c e², for e at least x y
-pub squares-above : (a c x y : ℕ) {b d e : ℕ} → b ≤ a * (x * x) → d < c * (y * y) → x * y ≤ e → 0 < b → b * d < a * c * (e * e)
-squares-above a c x y {b} {d} {e} h l f p =
-    let i : a * c * (x * y * (x * y)) ≤ a * c * (e * e) = mul-le-mul-left (a * c) (mul-le-mul f f) in
-    let j : a * c * (x * y * (x * y)) ≡ a * (x * x) * (c * (y * y)) =
-    poly (a ∷ c ∷ x ∷ y ∷ []) (v 0 ⊗ v 1 ⊗ (v 2 ⊗ v 3 ⊗ (v 2 ⊗ v 3))) (v 0 ⊗ (v 2 ⊗ v 2) ⊗ (v 1 ⊗ (v 3 ⊗ v 3))) tt tt in
-    let m : b * (c * (y * y)) ≤ a * (x * x) * (c * (y * y)) = mul-le-mul h (omega arith) in
-    omega (arith, i, j, m, mul-lt-mul-of-pos-left l p)
+-- equal squares have equal roots
+pub square-same : (v w : ℕ) → v * v ≡ w * w → v ≡ w
+square-same v w e =
+    by-cases (decLt v w) (λ l. omega (arith, square-rising l))
+    (λ l. by-cases (decLt w v) (λ k. omega (arith, square-rising k)) (λ k. omega arith))
 
--- g is the greatest number whose square, times a, is at most c
-pub record SquareRoot (a c g : ℕ) : Type 0 where
-  pub fits : g * g * a ≤ c
-  pub next : c < (g + 1) * (g + 1) * a
+-- the root of a square that four divides is even
+pub square-of-four : (v k : ℕ) → v * v ≡ 4 * k → (v ≡ 2 * (v / 2)) × (v / 2 * (v / 2) ≡ k)
+square-of-four v k e =
+    by-cases (ℕ-discrete (v % 2) 0)
+    (λ z. let p : v ≡ 2 * (v / 2) = omega arith in (p, omega (arith, ap (λ (x : ℕ). x * x) p)))
+    (λ z. let p : v ≡ 1 + 2 * (v / 2) = omega arith in omega (arith, ap (λ (x : ℕ). x * x) p))
 
--- what `greatest` finds is that, where some number of its n bits is too large
-pub greatest-square : (n a c x : ℕ) → x < 2 ^ n → c < x * x * a → SquareRoot a c (greatest n (squareFits a c))
-greatest-square n a c x h l =
-    let g : ℕ = greatest n (squareFits a c) in
-    let f : Found (squareFits a c) 0 (2 ^ n) g = greatest-found n (squareFits a c) (le→leb (0 * 0 * a) c (omega arith)) in
-    let fits : g * g * a ≤ c = leb→le (g * g * a) c (f .passes) in
-    let less : g < x =
-    by-cases (decLt g x) (λ i. i) (λ i. absurd (omega (arith, mul-le-mul-right a (mul-le-mul {n₁ = x} {m₁ = x} {n₂ = g} {m₂ = g} (omega arith) (omega arith))))) in
+-- One step of the descent. Let b be q × a + r, and d be a × c − q × b: then d × a = b × r, so that d² = r² × c
+module _ (a b c q r d : ℕ) (p : 0 < a) (e : b * b ≡ a * a * c) (b-is : b ≡ q * a + r) where
+  descended : a * c ≡ d + q * b → d * d ≡ r * r * c
+  descended d-is =
+      let m : a * d ≡ b * r = omega (arith, ap (λ (x : ℕ). a * x) d-is, ap (λ (x : ℕ). b * x) b-is) in
+      eq-of-mul-eq-mul-left (a * a) (mul-pos p p) (d * d) (r * r * c) (omega (arith, ap (λ (x : ℕ). x * x) m, ap (λ (x : ℕ). x * (r * r)) e))
+
+  -- the subtraction is one of whole numbers
+  above : q * b ≤ a * c
+  above = le-of-mul-le-mul-left {k = a} (omega (arith, ap (λ (x : ℕ). b * x) b-is)) p
+
+-- the descent on a: with q and r the quotient and the remainder of b by a, c is q² where r is 0, and else r, which is below a, takes a's place
+descent : (n a b c : ℕ) → a ≤ n → 0 < a → b * b ≡ a * a * c → PerfectSquare c
+descent zero a b c l p e = absurd (omega arith)
+descent (suc n) a b c l p e =
+    let b-is : b ≡ b / a * a + b % a = sym (div-add-mod' b a) in
+    let h : b % a < a = mod-lt b p in
+    by-cases (ℕ-discrete (b % a) 0)
+    (λ z.
+    let s : b ≡ b / a * a = omega arith in
     record {
-      fits = fits;
-      next =
-          by-cases (decLt c ((g + 1) * (g + 1) * a)) (λ i. i)
-          (λ i. absurd (f .last (omega arith) (le→leb (suc g * suc g * a) c (omega arith))));
-    }
+      root = b / a;
+      is = eq-of-mul-eq-mul-left (a * a) (mul-pos p p) (b / a * (b / a)) c (omega (arith, ap (λ (x : ℕ). x * x) s));
+    })
+    (λ z.
+    let d = a * c - b / a * b in
+    descent n (b % a) d c (omega arith) (omega arith)
+    (descended a b c (b / a) (b % a) d p e b-is (omega (arith, above a b c (b / a) (b % a) d p e b-is))))
 
--- so it is less than one away from the exact root
-pub square-low : (a c g : ℕ) → 0 < a → 0 < c → g * g * a ≤ c → (g - 1) * (g - 1) * a < c
-square-low a c zero p q h = omega arith
-square-low a c (suc g) p q h =
-    let e : suc g - 1 ≡ g = omega arith in
-    rw e (omega arith)
+-- where a² × c is a square, so is c
+pub square-part : (a b c : ℕ) → 0 < a → b * b ≡ a * a * c → PerfectSquare c
+square-part a b c p e = descent a a b c (omega arith) p e

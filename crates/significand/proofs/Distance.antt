@@ -7,7 +7,7 @@ use Prim.Native.Nat.{ℕ, _+_, _*_, _-_, _/_, _^_, _≤_, _<_}
 use native.Mathlib.Nat.{mul-sub}
 use native.Mathlib.Omega.{arith}
 use Rattle.kinds.specs.Operation.{Op, reciprocal, root, inverseRoot}
-use Rattle.numbers.proofs.Powers.{power-of}
+use Rattle.numbers.proofs.Exponents.{power-of}
 use Rattle.significand.specs.Steps.{indexOf, factorOf, signOf, reducedOf, digit2, digit3, digit4, carryOf, sumOf, seriesOf, multiplierOf, rawOf}
 use Rattle.significand.specs.Distance.{Significand, Under, Over, Within, distanceOf}
 use Rattle.significand.proofs.Series.{Summed, series-most, series-least}

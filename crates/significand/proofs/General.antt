@@ -7,7 +7,7 @@ use native.Mathlib.Nat.{div-mul-le-self, lt-div-mul-add, mul-le-mul-left, mul-su
 use native.Mathlib.Omega.{arith}
 use lib.Pow.{pow-pos}
 use Rattle.kinds.specs.Operation.{Op, reciprocal, root, inverseRoot}
-use Rattle.numbers.proofs.Powers.{power-of}
+use Rattle.numbers.proofs.Exponents.{power-of}
 use Rattle.significand.specs.Distance.{Significand, Under, Over, Within}
 use Rattle.significand.proofs.Close.{Close}
 use Rattle.significand.proofs.Units.{Setting, Floored, root-multiplier, inverse-multiplier, recip-multiplier, root-under, root-over, inverse-under, inverse-over, recip-under, recip-over}

@@ -6,8 +6,8 @@ use native.Mathlib.Nat.{mul-le-mul-left, mul-le-mul-right, mul-pos}
 use native.Mathlib.Omega.{arith}
 use lib.Pow.{pow-pos}
 use Rattle.kinds.specs.Operation.{Op, reciprocal, root, inverseRoot}
-use Rattle.numbers.proofs.Powers.{power-of}
-use Rattle.numbers.proofs.Squares.{SquareRoot, greatest-square, square-low}
+use Rattle.numbers.proofs.Exponents.{power-of}
+use Rattle.numbers.proofs.SquareRoot.{SquareRoot, greatest-square, before-square}
 use Rattle.significand.specs.Steps.{multiplierOf}
 use Rattle.significand.proofs.Scale.{parity-most, root-power, inverse-power, whole-square}
 use Rattle.significand.proofs.General.{Multiplies, NearRoot, NearInverse}
@@ -57,10 +57,10 @@ module _ (k r p : ℕ) (e : p ≤ 1) (least : 2 ^ k ≤ r) (most : r ≤ 2 ^ (k 
   unfolding multiplierOf
   multiplies reciprocal = refl
   multiplies root =
-      record { low = square-low r (2 ^ (9 * k + 1 + p)) (multiplierOf k root r p) (omega (arith, least, pow-pos k)) (pow-pos (9 * k + 1 + p)) (root-is .fits); high = root-is .next }
+      record { low = before-square r (2 ^ (9 * k + 1 + p)) (multiplierOf k root r p) (omega (arith, least, pow-pos k)) (pow-pos (9 * k + 1 + p)) (root-is .fits); high = root-is .next }
   multiplies inverseRoot =
       record {
-        low = square-low (2 ^ (k + 1 + p)) (r * 2 ^ (8 * k)) (multiplierOf k inverseRoot r p) (pow-pos (k + 1 + p))
+        low = before-square (2 ^ (k + 1 + p)) (r * 2 ^ (8 * k)) (multiplierOf k inverseRoot r p) (pow-pos (k + 1 + p))
             (mul-pos (omega (arith, least, pow-pos k)) (pow-pos (8 * k))) (inverse-is .fits);
         high = inverse-is .next;
       }

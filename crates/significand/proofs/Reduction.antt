@@ -9,7 +9,7 @@ use lib.Pow.{pow-pos, pow-mono, shr-lt, shr-shr}
 use lib.Dec.{leb}
 use borrow.Author.Tests.{leb-true, leb-false}
 use Rattle.numbers.proofs.Ring.{E, v, #, _⊕_, _⊗_, H, _⊙_⊑_, nlin}
-use Rattle.numbers.proofs.Powers.{power-of}
+use Rattle.numbers.proofs.Exponents.{power-of}
 use Rattle.significand.specs.Steps.{indexOf, factorOf, signOf, reducedOf, digit2, digit3, digit4}
 use Rattle.significand.specs.Distance.{Significand}
 use Rattle.significand.proofs.Scale.{whole-is}

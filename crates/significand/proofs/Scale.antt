@@ -7,8 +7,8 @@ use native.Mathlib.Nat.{mul-le-mul, mul-le-mul-left, mul-le-mul-right, lt-of-mul
 use native.Mathlib.Omega.{arith}
 use lib.Pow.{pow-pos, pow-mono}
 use Rattle.kinds.specs.Operation.{Op, reciprocal, root, inverseRoot}
-use Rattle.numbers.proofs.Powers.{power-of}
-use Rattle.numbers.proofs.Squares.{square-lt}
+use Rattle.numbers.proofs.Exponents.{power-of}
+use Rattle.numbers.proofs.Squares.{square-below}
 use Rattle.significand.specs.Distance.{Significand, Under, Over}
 use Rattle.significand.proofs.Series.{whole-big}
 use Rattle.significand.proofs.Units.{Setting}
@@ -87,11 +87,11 @@ module _ (k t y p x : ℕ) (h : 7 ≤ k) (e : p ≤ 1) (Y : Significand k t y) w
   over-least root o =
       let i : N * N * P < x * x * P =
       omega (arith, radicand, mul-le-mul-left (N * N) (Y .least), mul-le-mul-left (N * N * y) (pow-pos p), o) in
-      omega (arith, square-lt {a = N} {b = x} (lt-of-mul-lt-mul-right P i))
+      omega (arith, square-below N x (lt-of-mul-lt-mul-right P i))
   over-least inverseRoot o =
       let i : N * N * P < 2 * x * (2 * x) * P =
       omega (arith, square-scale k m, mul-le-mul-left (2 * x * x) top, mul-le-mul-left (x * x * y) (parity-most p e), o) in
-      square-lt (lt-of-mul-lt-mul-right P i)
+      square-below N (2 * x) (lt-of-mul-lt-mul-right P i)
 
   pub under-most : (op : Op) → Under op k (3 * k + t - 1) y p x → x < 2 * N
   under-most reciprocal u =
@@ -100,11 +100,11 @@ module _ (k t y p x : ℕ) (h : 7 ≤ k) (e : p ≤ 1) (Y : Significand k t y) w
   under-most root u =
       let i : x * x * P < 2 * N * (2 * N) * P =
       omega (arith, radicand, mul-le-mul-left (2 * N * N) top, mul-le-mul-left (N * N * y) (parity-most p e), u) in
-      square-lt (lt-of-mul-lt-mul-right P i)
+      square-below x (2 * N) (lt-of-mul-lt-mul-right P i)
   under-most inverseRoot u =
       let i : x * x * y < N * N * y =
       omega (arith, square-scale k m, mul-le-mul-left (N * N) (Y .least), mul-le-mul-left (x * x * y) (pow-pos p), u) in
-      omega (arith, square-lt {a = x} {b = N} (lt-of-mul-lt-mul-right y i))
+      omega (arith, square-below x N (lt-of-mul-lt-mul-right y i))
 
 -- what is less than a number under the exact value is under it too, and what is more than one over it is over it
 pub under-less : (op : Op) (k m y p x z : ℕ) → z ≤ x → Under op k m y p x → Under op k m y p z

@@ -5,7 +5,7 @@ use mathlib.Core.List.{[], _∷_}
 use Prim.Native.Nat.{ℕ, _+_, _*_, _-_, _/_, _^_, _≤_, _<_}
 use native.Mathlib.Omega.{arith}
 use Rattle.kinds.specs.Operation.{Op, reciprocal, root, inverseRoot}
-use Rattle.numbers.proofs.Powers.{power-of}
+use Rattle.numbers.proofs.Exponents.{power-of}
 use Rattle.significand.specs.Steps.{indexOf, factorOf, signOf, reducedOf, digit2, digit3, digit4, carryOf, sumOf, seriesOf, multiplierOf, rawOf}
 use Rattle.significand.specs.Distance.{Significand, distanceOf}
 use Rattle.significand.proofs.Series.{series-most, series-least}

@@ -7,7 +7,8 @@ use native.Mathlib.Nat.{mul-le-mul, mul-le-mul-left, mul-le-mul-right, mul-sub, 
 use native.Mathlib.Omega.{arith}
 use Rattle.kinds.specs.Operation.{Op, reciprocal, root, inverseRoot}
 use Rattle.numbers.proofs.Ring.{E, v, #, _⊕_, _⊗_, H, _⊙_⊑_, nlin, nlin×}
-use Rattle.numbers.proofs.Squares.{square-lt, cancel-lt, squares-below, squares-above}
+use Rattle.numbers.proofs.Products.{cancel-lt, squares-below, squares-above}
+use Rattle.numbers.proofs.Squares.{square-below}
 use Rattle.significand.proofs.Close.{Close}
 
 -- M is at most 2 N for the root, and at most N for the others
@@ -16,14 +17,14 @@ module _ (Z N X R M : ℕ) where
   root-multiplier h e low =
       let i : 2 * Z * N * N * X ≤ R * (2 * N * (2 * N)) = omega (arith, mul-le-mul-left (2 * Z * N * N) e, mul-le-mul-right (4 * N * N) h) in
       let j : (M - 1) * (M - 1) < 2 * N * (2 * N) = lt-of-mul-lt-mul-left R (omega (arith, i)) in
-      omega (arith, square-lt j)
+      omega (arith, square-below (M - 1) (2 * N) j)
 
   pub inverse-multiplier : R ≤ 2 * Z → 1 ≤ X → 2 * Z * X * ((M - 1) * (M - 1)) < R * (N * N) → M ≤ N
   inverse-multiplier h e low =
       let m : ℕ = (M - 1) * (M - 1) in
       let i : 2 * Z * m ≤ 2 * Z * X * m = omega (arith, mul-le-mul-left (2 * Z * m) e) in
       let j : 2 * Z * m < 2 * Z * (N * N) = omega (arith, i, mul-le-mul-right (N * N) h) in
-      omega (arith, square-lt (lt-of-mul-lt-mul-left (2 * Z) j))
+      omega (arith, square-below (M - 1) N (lt-of-mul-lt-mul-left (2 * Z) j))
 
   pub recip-multiplier : R ≤ 2 * Z → N ≡ Z * Z * Z * Z → 2 * M ≡ R * (Z * Z * Z) → M ≤ N
   recip-multiplier h whole exactly = omega (arith, mul-le-mul-right (Z * Z * Z) h, whole)
