@@ -1,0 +1,3 @@
+pub mod Entries
+pub mod Bounds
+pub mod Parts
