@@ -1,4 +1,5 @@
 pub mod Exponents
+pub mod Bits
 pub mod Greatest
 pub mod Powers
 pub mod Products
