@@ -1,0 +1,192 @@
+-- What the three series have in common, over any radix Z of at least 128: their variables, their sums as polynomials, and the facts
+-- that each is bounded from. Assumes nothing.
+use mathlib.Core.Path.{_≡_}
+use mathlib.Core.Bool.{Bool, true, false}
+use mathlib.Core.List.{List, [], _∷_}
+use Prim.Native.Nat.{ℕ, _+_, _*_, _-_, _≤_, _<_}
+use native.Mathlib.Omega.{arith}
+use Rattle.kinds.specs.Operation.{Op, reciprocal, root, inverseRoot}
+use Rattle.numbers.proofs.Ring.{E, v, #, _⊕_, _⊗_, ev, nf, H, _⊙_⊑_, lows, highs, Hold, Left, nlin, nlin×, prove}
+
+-- the variables: Z, the digits a2, a3, a4 of a, the carry h, the series b, W, which is N + a or N − a − 1, and the sum S
+abbrev pub z : E
+z = v 0
+
+abbrev pub x2 : E
+x2 = v 1
+
+abbrev pub x3 : E
+x3 = v 2
+
+abbrev pub x4 : E
+x4 = v 3
+
+abbrev pub y : E
+y = v 4
+
+abbrev pub q : E
+q = v 5
+
+abbrev pub w : E
+w = v 6
+
+abbrev pub s : E
+s = v 7
+
+-- N and a over them
+abbrev pub n : E
+n = z ⊗ z ⊗ z ⊗ z
+
+abbrev pub x : E
+x = x2 ⊗ z ⊗ z ⊕ x3 ⊗ z ⊕ x4
+
+-- what W is more than N, and less
+abbrev pub rise : Bool → E
+rise true = x
+rise false = # 0
+
+abbrev pub fall : Bool → E
+fall true = # 0
+fall false = x ⊕ # 1
+
+-- what each sum adds, and what it takes away
+abbrev pub gains : Op → Bool → E
+gains reciprocal true = z ⊗ (n ⊕ x2 ⊗ x2) ⊕ # 2 ⊗ x2 ⊗ x3
+gains reciprocal false = z ⊗ (n ⊕ x ⊕ x2 ⊗ x2) ⊕ # 2 ⊗ x2 ⊗ x3 ⊕ y ⊗ x2
+gains root true = # 16 ⊗ z ⊗ n ⊕ # 8 ⊗ z ⊗ x ⊕ y ⊗ x2
+gains root false = # 16 ⊗ z ⊗ n
+gains inverseRoot true = # 16 ⊗ z ⊗ n ⊕ # 6 ⊗ z ⊗ x2 ⊗ x2 ⊕ # 12 ⊗ x2 ⊗ x3
+gains inverseRoot false = # 16 ⊗ z ⊗ n ⊕ # 8 ⊗ z ⊗ x ⊕ # 6 ⊗ z ⊗ x2 ⊗ x2 ⊕ # 12 ⊗ x2 ⊗ x3 ⊕ # 5 ⊗ y ⊗ x2
+
+abbrev pub losses : Op → Bool → E
+losses reciprocal true = z ⊗ x ⊕ y ⊗ x2
+losses reciprocal false = # 0
+losses root true = # 2 ⊗ z ⊗ x2 ⊗ x2 ⊕ # 4 ⊗ x2 ⊗ x3
+losses root false = # 8 ⊗ z ⊗ x ⊕ # 2 ⊗ z ⊗ x2 ⊗ x2 ⊕ # 4 ⊗ x2 ⊗ x3 ⊕ y ⊗ x2
+losses inverseRoot true = # 8 ⊗ z ⊗ x ⊕ # 5 ⊗ y ⊗ x2
+losses inverseRoot false = # 0
+
+-- what the sum is divided by
+abbrev pub divisor : Op → E
+divisor reciprocal = z
+divisor root = # 16 ⊗ z
+divisor inverseRoot = # 16 ⊗ z
+
+-- the digits are below Z, and h is a2² / Z, floored
+pub record Digits (Z a2 a3 a4 h : ℕ) : Type 0 where
+  pub big : 128 ≤ Z
+  pub below2 : a2 < Z
+  pub below3 : a3 < Z
+  pub below4 : a4 < Z
+  pub carry-low : Z * h ≤ a2 * a2
+  pub carry-high : a2 * a2 < Z * h + Z
+
+abbrev pub env : ℕ → ℕ → ℕ → ℕ → ℕ → ℕ → ℕ → ℕ → List ℕ
+env Z a2 a3 a4 h b W S = Z ∷ a2 ∷ a3 ∷ a4 ∷ h ∷ b ∷ W ∷ S ∷ []
+
+-- S is the sum, b is S over its divisor, floored, and W is N + a or N − a − 1
+pub record Summed (op : Op) (sign : Bool) (Z a2 a3 a4 h b W S : ℕ) : Type 0 where
+  pub digits : Digits Z a2 a3 a4 h
+  pub sum : ev (env Z a2 a3 a4 h b W S) (s ⊕ losses op sign) ≡ ev (env Z a2 a3 a4 h b W S) (gains op sign)
+  pub floor-low : ev (env Z a2 a3 a4 h b W S) (divisor op ⊗ q) ≤ S
+  pub floor-high : S < ev (env Z a2 a3 a4 h b W S) (divisor op ⊗ q ⊕ divisor op)
+  pub at : ev (env Z a2 a3 a4 h b W S) (w ⊕ fall sign) ≡ ev (env Z a2 a3 a4 h b W S) (n ⊕ rise sign)
+
+-- a2² is at least Z h, and at most Z h + Z: the two sides of the one that is wanted where the sign is +, and of the other where it is −
+abbrev pub carry-less : Bool → E
+carry-less true = z ⊗ y
+carry-less false = x2 ⊗ x2
+
+abbrev pub carry-more : Bool → E
+carry-more true = x2 ⊗ x2
+carry-more false = z ⊗ y ⊕ z
+
+-- each of a2, a3, a4 and h is at most Z, and Z is 128 or more
+abbrev pub tops : List E
+tops = z ∷ z ∷ z ∷ z ∷ z ∷ q ∷ w ∷ s ∷ []
+
+abbrev pub from-128 : List E
+from-128 = # 128 ⊕ z ∷ x2 ∷ x3 ∷ x4 ∷ y ∷ q ∷ w ∷ s ∷ []
+
+-- the test that `by-tops` leaves to be computed
+abbrev pub Passes : E → List H → E → E → Type 0
+Passes m hs l r = Left tops from-128 (nf (m ⊗ l ⊕ highs hs)) (nf (m ⊗ r ⊕ lows hs))
+
+module _ (Z a2 a3 a4 h b W S : ℕ) (D : Digits Z a2 a3 a4 h) where
+  abbrev ρ : List ℕ
+  ρ = env Z a2 a3 a4 h b W S
+
+  carry-small : h ≤ a2
+  carry-small = nlin× ρ z (# 1 ⊙ z ⊗ y ⊑ x2 ⊗ x2 ∷ x2 ⊙ x2 ⊑ z ∷ []) y x2 tt (omega arith) (omega arith)
+
+  -- l ≤ r, from m · l ≤ m · r, from the hypotheses: what they leave over is compared where each of a2, a3, a4, h is Z
+  pub by-tops : (m : E) (hs : List H) (l r : E) → Passes m hs l r → 0 < ev ρ m → Hold ρ hs → ev ρ l ≤ ev ρ r
+  by-tops m hs l r t p held =
+      prove ρ (env (Z - 128) a2 a3 a4 h b W S) tops from-128 m hs l r t (omega (arith, carry-small)) (omega arith) p held
+
+  -- the same for either sign
+  pub by-signs : (sign : Bool) (m : E) (hs : Bool → List H) (l r : E) → Passes m (hs true) l r → Passes m (hs false) l r → 0 < ev ρ m
+      → Hold ρ (hs sign) → ev ρ l ≤ ev ρ r
+  by-signs true m hs l r t f p held = by-tops m (hs true) l r t p held
+  by-signs false m hs l r t f p held = by-tops m (hs false) l r f p held
+
+  pub carry-fits : (sign : Bool) → ev ρ (carry-less sign) ≤ ev ρ (carry-more sign)
+  carry-fits true = omega arith
+  carry-fits false = omega arith
+
+-- 2 Z³, more than b and W are from N
+abbrev pub margin : E
+margin = # 2 ⊗ z ⊗ z ⊗ z
+
+-- b ≤ N + 2 Z³ and N ≤ b + 2 Z³, from the floor and the sum
+abbrev by-most : Op → Bool → List H
+by-most op sign = # 1 ⊙ divisor op ⊗ q ⊑ s ∷ # 1 ⊙ s ⊕ losses op sign ⊑ gains op sign ∷ []
+
+abbrev by-least : Op → Bool → List H
+by-least op sign = # 1 ⊙ s ⊑ divisor op ⊗ q ⊕ divisor op ∷ # 1 ⊙ gains op sign ⊑ s ⊕ losses op sign ∷ []
+
+most-passes : (op : Op) (sign : Bool) → Passes (divisor op) (by-most op sign) q (n ⊕ margin)
+most-passes reciprocal true = tt
+most-passes reciprocal false = tt
+most-passes root true = tt
+most-passes root false = tt
+most-passes inverseRoot true = tt
+most-passes inverseRoot false = tt
+
+least-passes : (op : Op) (sign : Bool) → Passes (divisor op) (by-least op sign) n (q ⊕ margin)
+least-passes reciprocal true = tt
+least-passes reciprocal false = tt
+least-passes root true = tt
+least-passes root false = tt
+least-passes inverseRoot true = tt
+least-passes inverseRoot false = tt
+
+module _ (Z a2 a3 a4 h b W S : ℕ) where
+  divisor-positive : (op : Op) → 128 ≤ Z → 0 < ev (env Z a2 a3 a4 h b W S) (divisor op)
+  divisor-positive reciprocal big = omega arith
+  divisor-positive root big = omega arith
+  divisor-positive inverseRoot big = omega arith
+
+  module _ (op : Op) (sign : Bool) (F : Summed op sign Z a2 a3 a4 h b W S) where
+    pub series-most : ev (env Z a2 a3 a4 h b W S) q ≤ ev (env Z a2 a3 a4 h b W S) (n ⊕ margin)
+    series-most =
+        by-tops Z a2 a3 a4 h b W S (F .digits) (divisor op) (by-most op sign) q (n ⊕ margin) (most-passes op sign)
+        (divisor-positive op (F .digits .big)) (omega arith)
+
+    pub series-least : ev (env Z a2 a3 a4 h b W S) n ≤ ev (env Z a2 a3 a4 h b W S) (q ⊕ margin)
+    series-least =
+        by-tops Z a2 a3 a4 h b W S (F .digits) (divisor op) (by-least op sign) n (q ⊕ margin) (least-passes op sign)
+        (divisor-positive op (F .digits .big)) (omega arith)
+
+    pub scaled-least : ev (env Z a2 a3 a4 h b W S) n ≤ ev (env Z a2 a3 a4 h b W S) (w ⊕ margin)
+    scaled-least =
+        by-signs Z a2 a3 a4 h b W S (F .digits) sign (# 1) (λ (σ : Bool). # 1 ⊙ n ⊕ rise σ ⊑ w ⊕ fall σ ∷ []) n (w ⊕ margin) tt tt (omega arith)
+        (omega arith)
+
+-- 2 Z³ is at most a 64th of N
+pub margin-small : (Z : ℕ) → 128 ≤ Z → 64 * (2 * Z * Z * Z) ≤ Z * Z * Z * Z
+margin-small Z big = nlin (Z ∷ []) (z ⊗ z ⊗ z ⊙ # 128 ⊑ z ∷ []) (# 64 ⊗ (# 2 ⊗ z ⊗ z ⊗ z)) n tt (omega arith)
+
+-- N is 128 or more
+pub whole-big : (Z : ℕ) → 128 ≤ Z → 128 ≤ Z * Z * Z * Z
+whole-big Z big = nlin (Z ∷ []) (z ⊗ z ⊗ z ⊕ z ⊗ z ⊕ z ⊕ # 1 ⊙ # 128 ⊑ z ∷ []) (# 128) n tt (omega arith)
