@@ -13,7 +13,8 @@ use mir.Val.{Fits}
 use Rattle.numbers.proofs.Ring.{E, v, #, _⊕_, _⊗_, H, _⊙_⊑_, nlin, nlin×}
 use Rattle.kinds.specs.Operation.{inverseRoot}
 use Rattle.significand.specs.Steps.{rawOf}
-use Rattle.significand.specs.Distance.{Within}
+use Rattle.significand.specs.Distance.{Significand, Within}
+use Rattle.significand.proofs.Distance.{distance}
 use Rattle.offset.specs.Inverse.{InverseOf}
 
 -- the place of the highest bit, counted from 0
@@ -189,7 +190,10 @@ module _ (q : ℕ) (pos : 0 < q) (small : q < 2 ^ 35) (g : ℕ) (near : Within i
 
 module _ (q : ℕ) (pos : 0 < q) (small : q < 2 ^ 35) (g : ℕ) (raw : g ≡ rawOf 7 3 inverseRoot (significandOf q) (exponentOf q % 2)) where
   near : Within inverseRoot 7 3 (significandOf q) (exponentOf q % 2) 8 g
-  near = ?
+  near =
+      let Y : Significand 7 3 (significandOf q) = record { least = significand-least q pos small; below = significand-most q pos small } in
+      subst (λ (x : ℕ). Within inverseRoot 7 3 (significandOf q) (exponentOf q % 2) 8 x) (sym raw)
+      (distance inverseRoot 7 3 (significandOf q) (exponentOf q % 2) (omega arith) (parity-most (exponentOf q)) Y)
 
   pub answer-above : 24 ≤ g
   answer-above = inverse-near q pos small g near .0
