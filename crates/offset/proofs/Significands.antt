@@ -176,8 +176,7 @@ module _ (q : ℕ) (pos : 0 < q) (small : q < 2 ^ 35) (g : ℕ) (near : Within i
       let below : (g - 24 + 16) * (g - 24 + 16) * y * P < 2 ^ 79 = subst (λ (x : ℕ). x * x * y * P < 2 ^ 79) e8 (near .under) in
       let above : 2 ^ 79 < (g - 24 + 32) * (g - 24 + 32) * y * P = subst (λ (x : ℕ). 2 ^ 79 < x * x * y * P) e32 (near .over) in
       let power-is : 2 ^ (27 + j / 2) ≡ 2 ^ 27 * h = pow-add 2 27 (j / 2) in
-      let squared : 4 * (2 ^ (27 + j / 2) * 2 ^ (27 + j / 2)) ≡ 2 ^ 56 * (h * h) = rw power-is (omega arith) in
-      (
+      let squared : 4 * (2 ^ (27 + j / 2) * 2 ^ (27 + j / 2)) ≡ 2 ^ 56 * (h * h) = rw power-is (omega arith) in (
         omega arith,
         record {
           least = omega arith;

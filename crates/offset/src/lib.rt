@@ -1,6 +1,5 @@
 // An offset's magnitude, n over √q as a whole number, from an inverse root that is a little too small and a remainder.
 use kinds::Rounding;
-
 ghost use mathlib.Core.Path.{_≡_};
 ghost use mathlib.Core.Bool.{not};
 ghost use Prim.Native.Nat.{_+_, _*_, _/_, _%_, _^_, _≤_, _<_};
@@ -38,7 +37,14 @@ struct Doubled {
 }
 
 // The magnitude of an offset: component × radius over √q, rounded for the sign given.
-pub fn rounded_over(rounding: Rounding, negative: bool, component: u64, radius: u64, q: u64, inverse: Inverse) -> u64
+pub fn rounded_over(
+    rounding: Rounding,
+    negative: bool,
+    component: u64,
+    radius: u64,
+    q: u64,
+    inverse: Inverse,
+) -> u64
     requires { ⌜ Ranges component radius q × InverseOf q (inverse .low) (inverse .shift) ⌝ }
     ensures { λ r. ⌜ (r ≡ roundedOver (modeOf (rounding .0)) negative (component * radius) q) × (r ≤ radius) ⌝ }
 {
