@@ -11,7 +11,7 @@ use Rattle.significand.specs.Distance.{Significand, distanceOf}
 use Rattle.significand.proofs.Series.{series-most, series-least}
 use Rattle.significand.proofs.Scale.{whole-is}
 use Rattle.significand.proofs.General.{multiplier-most}
-use Rattle.significand.proofs.Reduction.{scaledOf, least, most, three-digits}
+use Rattle.significand.proofs.Reduction.{scaledOf, least, most, reduced-small}
 use Rattle.significand.proofs.Sums.{summed}
 use Rattle.significand.proofs.Multiplier.{multiplies}
 use Rattle.significand.proofs.Distance.{promised, answer-least, answer-most}
@@ -62,7 +62,7 @@ sizes op y p e Y =
     let a : ℕ = reducedOf 7 3 (y * factorOf 7 (indexOf 7 3 y)) in
     let l : 128 ≤ factorOf 7 (indexOf 7 3 y) = least 7 3 y (omega arith) Y in
     let m : factorOf 7 (indexOf 7 3 y) ≤ 256 = most 7 3 y (omega arith) Y in
-    let d : a < 2 ^ 21 = three-digits 7 3 y (omega arith) Y in
+    let d : a < 2 ^ 21 = reduced-small 7 3 y (omega arith) Y in
     record {
       factor-least = l;
       factor-most = m;
