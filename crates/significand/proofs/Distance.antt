@@ -8,14 +8,13 @@ use native.Mathlib.Nat.{mul-sub}
 use native.Mathlib.Omega.{arith}
 use Rattle.kinds.specs.Operation.{Op, reciprocal, root, inverseRoot}
 use Rattle.numbers.proofs.Exponents.{power-of}
-use Rattle.significand.specs.Steps.{indexOf, factorOf, signOf, reducedOf, digit2, digit3, digit4, carryOf, sumOf, seriesOf, multiplierOf, rawOf}
+use Rattle.significand.specs.Steps.{indexOf, factorOf, signOf, reducedOf, seriesOf, multiplierOf, rawOf}
 use Rattle.significand.specs.Distance.{Significand, Under, Over, Near, distanceOf}
-use Rattle.significand.proofs.Series.{Summed, series-most, series-least}
 use Rattle.significand.proofs.Close.{Close, series-close}
 use Rattle.significand.proofs.Scale.{whole-is, whole-least, over-least, under-most, under-less, over-more}
-use Rattle.significand.proofs.General.{reachOf, general, multiplier-most}
-use Rattle.significand.proofs.Reduction.{scaledOf, Reduced, least, most, reduced-small, reduced}
-use Rattle.significand.proofs.Sums.{summed}
+use Rattle.significand.proofs.General.{reachOf, general}
+use Rattle.significand.proofs.Reduction.{least, most, reduced-small, reduced}
+use Rattle.significand.proofs.Sums.{pointOf, summed}
 use Rattle.significand.proofs.Multiplier.{multiplies}
 
 module _ (op : Op) (k t y p : ℕ) (h : 7 ≤ k) (e : p ≤ 1) (Y : Significand k t y) where
@@ -29,20 +28,14 @@ module _ (op : Op) (k t y p : ℕ) (h : 7 ≤ k) (e : p ≤ 1) (Y : Significand 
   abbrev a : ℕ
   a = reducedOf k t (y * r)
 
-  abbrev W : ℕ
-  W = scaledOf s (2 ^ (4 * k)) a
-
   abbrev b : ℕ
   b = seriesOf k op s a
-
-  sums : Summed op s (2 ^ k) (digit2 k a) (digit3 k a) (digit4 k a) (carryOf k (digit2 k a)) b W (sumOf k op s a)
-  sums = summed k a h (reduced-small k t y h Y) op s
 
   close : Close op (2 ^ (4 * k)) (2 ^ t) (y * r) b
   close =
       subst (λ (n : ℕ). Close op n (2 ^ t) (y * r) b) (sym (whole-is k))
-      (series-close (2 ^ k) (digit2 k a) (digit3 k a) (digit4 k a) (carryOf k (digit2 k a)) b W (sumOf k op s a) (2 ^ t) (y * r)
-      (reduced k t y h Y .from) (reduced k t y h Y .upto) s op sums)
+      (series-close op s (pointOf k op s a) (2 ^ t) (y * r) (reduced k t y h Y .from) (reduced k t y h Y .upto)
+      (summed k a h (reduced-small k t y h Y) op s))
 
   within : Near op k t y p (reachOf op) (rawOf k t op y p)
   unfolding rawOf
