@@ -5,8 +5,8 @@ use mathlib.Core.List.{[], _∷_}
 use Prim.Native.Nat.{ℕ, _+_, _*_, _-_, _≤_, _<_}
 use native.Mathlib.Omega.{arith}
 use Rattle.kinds.specs.Operation.{Op, reciprocal, root, inverseRoot}
-use Rattle.numbers.proofs.Ring.{E, v, #, _⊕_, _⊗_, ev, H, _⊙_⊑_, nlin}
-use Rattle.significand.proofs.Series.{Summed, Digits, series-most, series-least, margin-small, whole-big}
+use Rattle.numbers.proofs.Ring.{E, v, #, _⊕_, _⊗_, _⊙_⊑_, nlin}
+use Rattle.significand.proofs.Series.{Point, Summed, series-most, series-least, margin-small, whole-big}
 use Rattle.significand.proofs.Reciprocal.{recip-high, recip-low}
 use Rattle.significand.proofs.Roots.{root-high, root-low, inverse-high, inverse-low}
 
@@ -81,46 +81,44 @@ module _ (T U W N b : ℕ) (from : T * W ≤ U) (upto : U ≤ T * (W + 1)) where
       nlin (T ∷ U ∷ W ∷ N ∷ b ∷ []) (T′ ⊙ # 4 ⊗ N′ ⊗ N′ ⊗ N′ ⊑ b′ ⊗ b′ ⊗ W′ ∷ b′ ⊗ b′ ⊙ T′ ⊗ W′ ⊑ U′ ∷ []) (# 4 ⊗ (N′ ⊗ N′ ⊗ N′ ⊗ T′))
       (U′ ⊗ (b′ ⊗ b′)) tt (omega arith)
 
-module _ (Z a2 a3 a4 h b W S : ℕ) (op : Op) (sign : Bool) (F : Summed op sign Z a2 a3 a4 h b W S) where
-  close-most : 64 * b ≤ 65 * (Z * Z * Z * Z)
-  close-most = omega (arith, series-most Z a2 a3 a4 h b W S op sign F, margin-small Z (F .digits .big))
+module _ (P : Point) (op : Op) (sign : Bool) (F : Summed op sign P) where
+  abbrev N : ℕ
+  N = P .Z * P .Z * P .Z * P .Z
 
-  close-least : 63 * (Z * Z * Z * Z) ≤ 64 * b
-  close-least = omega (arith, series-least Z a2 a3 a4 h b W S op sign F, margin-small Z (F .digits .big))
+  close-most : 64 * P .b ≤ 65 * N
+  close-most = omega (arith, series-most P op sign F, margin-small (P .Z) (F .digits .big))
+
+  close-least : 63 * N ≤ 64 * P .b
+  close-least = omega (arith, series-least P op sign F, margin-small (P .Z) (F .digits .big))
 
   -- so that b − 2 is b less 2
-  two-least : 2 ≤ b
-  two-least = omega (arith, close-least, whole-big Z (F .digits .big))
+  square-is : (P .b - 2) * (P .b - 2) + 4 * P .b ≡ P .b * P .b + 4
+  square-is = square-less (P .b) (omega (arith, close-least, whole-big (P .Z) (F .digits .big)))
 
-module _ (Z a2 a3 a4 h b W S T U : ℕ) (from : T * W ≤ U) (upto : U ≤ T * (W + 1)) (sign : Bool) where
-  abbrev N : ℕ
-  N = Z * Z * Z * Z
-
-  pub series-close : (op : Op) → Summed op sign Z a2 a3 a4 h b W S → Close op (Z * Z * Z * Z) T U b
-  series-close reciprocal F =
-      record {
-        most = close-most Z a2 a3 a4 h b W S reciprocal sign F;
-        least = close-least Z a2 a3 a4 h b W S reciprocal sign F;
-        high = recip-up T U W N b from upto (recip-high Z a2 a3 a4 h b W S sign F);
-        low = recip-down T U W N b from upto (recip-low Z a2 a3 a4 h b W S sign F);
-      }
-  series-close root F =
-      record {
-        most = close-most Z a2 a3 a4 h b W S root sign F;
-        least = close-least Z a2 a3 a4 h b W S root sign F;
-        high = root-up T U W N (b - 2) from upto
-            (omega (arith, root-high Z a2 a3 a4 h b W S sign F, square-less b (two-least Z a2 a3 a4 h b W S root sign F)));
-        low = root-down T U W N (b + 2) from upto (root-low Z a2 a3 a4 h b W S sign F);
-      }
-  series-close inverseRoot F =
-      record {
-        most = close-most Z a2 a3 a4 h b W S inverseRoot sign F;
-        least = close-least Z a2 a3 a4 h b W S inverseRoot sign F;
-        high = inverse-up T U W N (b - 2) from upto
-            (omega (
-              arith,
-              inverse-high Z a2 a3 a4 h b W S sign F,
-              ap (λ (m : ℕ). m * (W + 1)) (square-less b (two-least Z a2 a3 a4 h b W S inverseRoot sign F)),
-            ));
-        low = inverse-down T U W N (2 * b + 9) from upto (inverse-low Z a2 a3 a4 h b W S sign F);
-      }
+pub series-close : (op : Op) (sign : Bool) (P : Point) (T U : ℕ) → T * P .W ≤ U → U ≤ T * (P .W + 1) → Summed op sign P
+    → Close op (P .Z * P .Z * P .Z * P .Z) T U (P .b)
+series-close reciprocal sign P T U from upto F =
+    let N : ℕ = P .Z * P .Z * P .Z * P .Z in
+    record {
+      most = close-most P reciprocal sign F;
+      least = close-least P reciprocal sign F;
+      high = recip-up T U (P .W) N (P .b) from upto (recip-high P sign F);
+      low = recip-down T U (P .W) N (P .b) from upto (recip-low P sign F);
+    }
+series-close root sign P T U from upto F =
+    let N : ℕ = P .Z * P .Z * P .Z * P .Z in
+    record {
+      most = close-most P root sign F;
+      least = close-least P root sign F;
+      high = root-up T U (P .W) N (P .b - 2) from upto (omega (arith, root-high P sign F, square-is P root sign F));
+      low = root-down T U (P .W) N (P .b + 2) from upto (root-low P sign F);
+    }
+series-close inverseRoot sign P T U from upto F =
+    let N : ℕ = P .Z * P .Z * P .Z * P .Z in
+    record {
+      most = close-most P inverseRoot sign F;
+      least = close-least P inverseRoot sign F;
+      high = inverse-up T U (P .W) N (P .b - 2) from upto
+          (omega (arith, inverse-high P sign F, ap (λ (m : ℕ). m * (P .W + 1)) (square-is P inverseRoot sign F)));
+      low = inverse-down T U (P .W) N (2 * P .b + 9) from upto (inverse-low P sign F);
+    }

@@ -8,14 +8,13 @@ use native.Mathlib.Nat.{mul-sub}
 use native.Mathlib.Omega.{arith}
 use Rattle.kinds.specs.Operation.{Op, reciprocal, root, inverseRoot}
 use Rattle.numbers.proofs.Exponents.{power-of}
-use Rattle.significand.specs.Steps.{indexOf, factorOf, signOf, reducedOf, digit2, digit3, digit4, carryOf, sumOf, seriesOf, multiplierOf, rawOf}
-use Rattle.significand.specs.Distance.{Significand, Under, Over, Within, distanceOf}
-use Rattle.significand.proofs.Series.{Summed, series-most, series-least}
+use Rattle.significand.specs.Steps.{indexOf, factorOf, signOf, reducedOf, seriesOf, multiplierOf, rawOf}
+use Rattle.significand.specs.Distance.{Significand, Under, Over, Near, distanceOf}
 use Rattle.significand.proofs.Close.{Close, series-close}
 use Rattle.significand.proofs.Scale.{whole-is, whole-least, over-least, under-most, under-less, over-more}
-use Rattle.significand.proofs.General.{reachOf, general, multiplier-most}
-use Rattle.significand.proofs.Reduction.{scaledOf, Reduced, least, most, three-digits, reduced}
-use Rattle.significand.proofs.Sums.{summed}
+use Rattle.significand.proofs.General.{reachOf, general}
+use Rattle.significand.proofs.Reduction.{least, most, reduced-small, reduced}
+use Rattle.significand.proofs.Sums.{pointOf, summed}
 use Rattle.significand.proofs.Multiplier.{multiplies}
 
 module _ (op : Op) (k t y p : ℕ) (h : 7 ≤ k) (e : p ≤ 1) (Y : Significand k t y) where
@@ -29,22 +28,16 @@ module _ (op : Op) (k t y p : ℕ) (h : 7 ≤ k) (e : p ≤ 1) (Y : Significand 
   abbrev a : ℕ
   a = reducedOf k t (y * r)
 
-  abbrev W : ℕ
-  W = scaledOf s (2 ^ (4 * k)) a
-
   abbrev b : ℕ
   b = seriesOf k op s a
-
-  sums : Summed op s (2 ^ k) (digit2 k a) (digit3 k a) (digit4 k a) (carryOf k (digit2 k a)) b W (sumOf k op s a)
-  sums = summed k a h (three-digits k t y h Y) op s
 
   close : Close op (2 ^ (4 * k)) (2 ^ t) (y * r) b
   close =
       subst (λ (n : ℕ). Close op n (2 ^ t) (y * r) b) (sym (whole-is k))
-      (series-close (2 ^ k) (digit2 k a) (digit3 k a) (digit4 k a) (carryOf k (digit2 k a)) b W (sumOf k op s a) (2 ^ t) (y * r)
-      (reduced k t y h Y .from) (reduced k t y h Y .upto) s op sums)
+      (series-close op s (pointOf k op s a) (2 ^ t) (y * r) (reduced k t y h Y .from) (reduced k t y h Y .upto)
+      (summed k a h (reduced-small k t y h Y) op s))
 
-  within : Within op k t y p (reachOf op) (rawOf k t op y p)
+  within : Near op k t y p (reachOf op) (rawOf k t op y p)
   unfolding rawOf
   within =
       general k t y r p (multiplierOf k op r p) b h e Y (least k t y h Y) (most k t y h Y) op
@@ -60,9 +53,9 @@ module _ (op : Op) (k t y p : ℕ) (h : 7 ≤ k) (e : p ≤ 1) (Y : Significand 
   abbrev g : ℕ
   g = rawOf k t op y p
 
-  pub distance : Within op k t y p (distanceOf op) (rawOf k t op y p)
+  pub distance : Near op k t y p (distanceOf op) (rawOf k t op y p)
   distance =
-      let near : Within op k t y p (reachOf op) g = within op k t y p h e Y in
+      let near : Near op k t y p (reachOf op) g = within op k t y p h e Y in
       let over : Over op k (3 * k + t - 1) y p (g + distanceOf op) =
       over-more op k (3 * k + t - 1) y p (g + reachOf op) (g + distanceOf op) (omega (arith, promised op)) (near .over) in
       record {
@@ -90,18 +83,18 @@ module _ (k t y : ℕ) (h : 7 ≤ k) (Y : Significand k t y) where
       (g * y < 2 ^ (4 * k + (3 * k + t - 1)) + 12 * y) × (2 ^ (4 * k + (3 * k + t - 1)) < g * y + 12 * y)
   reciprocal-distance =
       let g : ℕ = rawOf k t reciprocal y 0 in
-      let d : Within reciprocal k t y 0 12 g = distance reciprocal k t y 0 h (omega arith) Y in
+      let d : Near reciprocal k t y 0 12 g = distance reciprocal k t y 0 h (omega arith) Y in
       omega (arith, d .under, d .over, d .enough, mul-sub y g 12)
 
   module _ (p : ℕ) (e : p ≤ 1) where
     pub root-distance : let g : ℕ = rawOf k t root y p in
         (8 ≤ g) × ((g - 8) * (g - 8) * 2 ^ (3 * k + t - 1) < y * 2 ^ (8 * k + p)) × (y * 2 ^ (8 * k + p) < (g + 8) * (g + 8) * 2 ^ (3 * k + t - 1))
     root-distance =
-        let d : Within root k t y p 8 (rawOf k t root y p) = distance root k t y p h e Y in
+        let d : Near root k t y p 8 (rawOf k t root y p) = distance root k t y p h e Y in
         (d .enough, d .under, d .over)
 
     pub inverse-root-distance : let g : ℕ = rawOf k t inverseRoot y p in
         (8 ≤ g) × ((g - 8) * (g - 8) * y * 2 ^ p < 2 ^ (8 * k + (3 * k + t - 1))) × (2 ^ (8 * k + (3 * k + t - 1)) < (g + 8) * (g + 8) * y * 2 ^ p)
     inverse-root-distance =
-        let d : Within inverseRoot k t y p 8 (rawOf k t inverseRoot y p) = distance inverseRoot k t y p h e Y in
+        let d : Near inverseRoot k t y p 8 (rawOf k t inverseRoot y p) = distance inverseRoot k t y p h e Y in
         (d .enough, d .under, d .over)

@@ -8,24 +8,24 @@ use native.Mathlib.Omega.{arith}
 use lib.Pow.{pow-pos}
 use Rattle.kinds.specs.Operation.{Op, reciprocal, root, inverseRoot}
 use Rattle.numbers.proofs.Exponents.{power-of}
-use Rattle.significand.specs.Distance.{Significand, Under, Over, Within}
+use Rattle.significand.specs.Distance.{Significand, Under, Over, Near}
 use Rattle.significand.proofs.Close.{Close}
 use Rattle.significand.proofs.Units.{Setting, Floored, root-multiplier, inverse-multiplier, recip-multiplier, root-under, root-over, inverse-under, inverse-over, recip-under, recip-over}
 use Rattle.significand.proofs.Scale.{setting, whole-is, whole-least, parity-most, quotient-scale, square-scale, root-power, inverse-power, whole-square, over-least}
 
 -- M is the exact M (reciprocal), or less than one unit away from it: √(2^(9k + 1 + p) / r), √(r 2^(8k) / 2^(k + 1 + p))
-pub record NearRoot (k r p M : ℕ) : Type 0 where
+pub record RootUnit (k r p M : ℕ) : Type 0 where
   pub low : (M - 1) * (M - 1) * r < 2 ^ (9 * k + 1 + p)
   pub high : 2 ^ (9 * k + 1 + p) < (M + 1) * (M + 1) * r
 
-pub record NearInverse (k r p M : ℕ) : Type 0 where
+pub record InverseUnit (k r p M : ℕ) : Type 0 where
   pub low : (M - 1) * (M - 1) * 2 ^ (k + 1 + p) < r * 2 ^ (8 * k)
   pub high : r * 2 ^ (8 * k) < (M + 1) * (M + 1) * 2 ^ (k + 1 + p)
 
 abbrev pub Multiplies : Op → ℕ → ℕ → ℕ → ℕ → Type 0
 Multiplies reciprocal k r p M = M ≡ r * 2 ^ (3 * k - 1)
-Multiplies root k r p M = NearRoot k r p M
-Multiplies inverseRoot k r p M = NearInverse k r p M
+Multiplies root k r p M = RootUnit k r p M
+Multiplies inverseRoot k r p M = InverseUnit k r p M
 
 -- the distance that follows
 abbrev pub reachOf : Op → ℕ
@@ -41,16 +41,16 @@ module _ (k r p M : ℕ) (h : 7 ≤ k) where
   N = 2 ^ (4 * k)
 
   -- the rules for M over Z, N and 2^p
-  root-low : NearRoot k r p M → r * ((M - 1) * (M - 1)) < 2 * Z * N * N * 2 ^ p
+  root-low : RootUnit k r p M → r * ((M - 1) * (M - 1)) < 2 * Z * N * N * 2 ^ p
   root-low near = omega (arith, near .low, root-power k p)
 
-  root-high : NearRoot k r p M → 2 * Z * N * N * 2 ^ p < r * ((M + 1) * (M + 1))
+  root-high : RootUnit k r p M → 2 * Z * N * N * 2 ^ p < r * ((M + 1) * (M + 1))
   root-high near = omega (arith, near .high, root-power k p)
 
-  inverse-low : NearInverse k r p M → 2 * Z * 2 ^ p * ((M - 1) * (M - 1)) < r * (N * N)
+  inverse-low : InverseUnit k r p M → 2 * Z * 2 ^ p * ((M - 1) * (M - 1)) < r * (N * N)
   inverse-low near = omega (arith, near .low, ap (λ (n : ℕ). (M - 1) * (M - 1) * n) (inverse-power k p), ap (λ (n : ℕ). r * n) (whole-square k))
 
-  inverse-high : NearInverse k r p M → r * (N * N) < 2 * Z * 2 ^ p * ((M + 1) * (M + 1))
+  inverse-high : InverseUnit k r p M → r * (N * N) < 2 * Z * 2 ^ p * ((M + 1) * (M + 1))
   inverse-high near = omega (arith, near .high, ap (λ (n : ℕ). (M + 1) * (M + 1) * n) (inverse-power k p), ap (λ (n : ℕ). r * n) (whole-square k))
 
   recip-twice : M ≡ r * 2 ^ (3 * k - 1) → 2 * M ≡ r * (Z * Z * Z)
@@ -106,7 +106,7 @@ module _ (k t y r p M b : ℕ) (h : 7 ≤ k) (e : p ≤ 1) (Y : Significand k t 
   reach-small root = omega arith
   reach-small inverseRoot = omega arith
 
-  pub general : (op : Op) → Multiplies op k r p M → Close op (2 ^ (4 * k)) (2 ^ t) (y * r) b → Within op k t y p (reachOf op) g
+  pub general : (op : Op) → Multiplies op k r p M → Close op (2 ^ (4 * k)) (2 ^ t) (y * r) b → Near op k t y p (reachOf op) g
   general op near C =
       record {
         enough = omega (arith, over-least k t y p (g + reachOf op) h e Y op (over op near C), whole-least k h, reach-small op);

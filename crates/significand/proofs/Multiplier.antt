@@ -10,7 +10,7 @@ use Rattle.numbers.proofs.Exponents.{power-of}
 use Rattle.numbers.proofs.SquareRoot.{SquareRoot, greatest-square, before-square}
 use Rattle.significand.specs.Steps.{multiplierOf}
 use Rattle.significand.proofs.Scale.{parity-most, root-power, inverse-power, whole-square}
-use Rattle.significand.proofs.General.{Multiplies, NearRoot, NearInverse}
+use Rattle.significand.proofs.General.{Multiplies, RootUnit, InverseUnit}
 
 module _ (k r p : ℕ) (e : p ≤ 1) (least : 2 ^ k ≤ r) (most : r ≤ 2 ^ (k + 1)) where
   abbrev Z : ℕ

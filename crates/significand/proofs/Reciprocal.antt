@@ -1,12 +1,13 @@
 -- The reciprocal's series b against N² / W and N² / (W + 1). Assumes nothing.
-use mathlib.Core.Bool.{Bool, true, false, not}
+use mathlib.Core.Bool.{Bool, not}
 use mathlib.Core.List.{List, [], _∷_}
-use Prim.Native.Nat.{ℕ, _≤_, _<_}
+use Prim.Native.Nat.{_≤_, _<_}
 use native.Mathlib.Omega.{arith}
-use Rattle.kinds.specs.Operation.{Op, reciprocal, root, inverseRoot}
-use Rattle.numbers.proofs.Ring.{E, v, #, _⊕_, _⊗_, ev, H, _⊙_⊑_}
-use Rattle.significand.proofs.Series.{z, x2, x3, x4, y, q, w, s, n, x, rise, fall, gains, losses, env, Digits, Summed, by-signs, carry-less, carry-more, carry-fits, margin, scaled-least}
+use Rattle.kinds.specs.Operation.{reciprocal}
+use Rattle.numbers.proofs.Ring.{#, _⊕_, _⊗_, ev, H, _⊙_⊑_}
+use Rattle.significand.proofs.Series.{Point, env, z, x2, q, w, s, n, rise, fall, gains, losses, Summed, by-signs, carry-less, carry-more, carry-fits, margin, scaled-least}
 
+-- the hypotheses of the two bounds, each with the number of times it is taken
 abbrev by-high : Bool → List H
 by-high sign =
     w ⊕ # 1 ⊙ z ⊗ q ⊑ s
@@ -27,15 +28,15 @@ by-low sign =
     ∷ # 10 ⊗ z ⊙ n ⊑ w ⊕ margin
     ∷ []
 
-module _ (Z a2 a3 a4 h b W S : ℕ) (sign : Bool) (F : Summed reciprocal sign Z a2 a3 a4 h b W S) where
+module _ (P : Point) (sign : Bool) (F : Summed reciprocal sign P) where
   -- (W + 1) b ≤ N² + 6 W
-  pub recip-high : ev (env Z a2 a3 a4 h b W S) ((w ⊕ # 1) ⊗ q) ≤ ev (env Z a2 a3 a4 h b W S) (n ⊗ n ⊕ # 6 ⊗ w)
+  pub recip-high : ev (env P) ((w ⊕ # 1) ⊗ q) ≤ ev (env P) (n ⊗ n ⊕ # 6 ⊗ w)
   recip-high =
-      by-signs Z a2 a3 a4 h b W S (F .digits) sign z by-high ((w ⊕ # 1) ⊗ q) (n ⊗ n ⊕ # 6 ⊗ w) tt tt (omega arith)
-      (omega (arith, carry-fits Z a2 a3 a4 h b W S (F .digits) (not sign), scaled-least Z a2 a3 a4 h b W S reciprocal sign F))
+      by-signs P (F .digits) sign z by-high ((w ⊕ # 1) ⊗ q) (n ⊗ n ⊕ # 6 ⊗ w) tt tt (omega arith)
+      (omega (arith, carry-fits P (F .digits) (not sign), scaled-least P reciprocal sign F))
 
   -- N² ≤ W b + 11 W
-  pub recip-low : ev (env Z a2 a3 a4 h b W S) (n ⊗ n) ≤ ev (env Z a2 a3 a4 h b W S) (w ⊗ q ⊕ # 11 ⊗ w)
+  pub recip-low : ev (env P) (n ⊗ n) ≤ ev (env P) (w ⊗ q ⊕ # 11 ⊗ w)
   recip-low =
-      by-signs Z a2 a3 a4 h b W S (F .digits) sign z by-low (n ⊗ n) (w ⊗ q ⊕ # 11 ⊗ w) tt tt (omega arith)
-      (omega (arith, carry-fits Z a2 a3 a4 h b W S (F .digits) sign, scaled-least Z a2 a3 a4 h b W S reciprocal sign F))
+      by-signs P (F .digits) sign z by-low (n ⊗ n) (w ⊗ q ⊕ # 11 ⊗ w) tt tt (omega arith)
+      (omega (arith, carry-fits P (F .digits) sign, scaled-least P reciprocal sign F))

@@ -172,9 +172,9 @@ module _ (k t y : ℕ) (h : 7 ≤ k) (Y : Significand k t y) where
   high = omega (arith, apart-above (2 ^ k) (2 ^ t) y i r (2 ^ (2 * k + t - 1)) indexed, whole, cube, least, pow-pos k)
 
   -- a has three digits
-  pub three-digits : reducedOf k t (y * r) < 2 ^ (3 * k)
+  pub reduced-small : reducedOf k t (y * r) < 2 ^ (3 * k)
   unfolding reducedOf
-  three-digits = rw scale (reduced-below (2 ^ (4 * k)) (2 ^ (3 * k)) (2 ^ t) (y * r) (pow-pos t) low high)
+  reduced-small = rw scale (reduced-below (2 ^ (4 * k)) (2 ^ (3 * k)) (2 ^ t) (y * r) (pow-pos t) low high)
 
   pub reduced : Reduced (signOf k t (y * r)) (2 ^ (4 * k)) (2 ^ t) (y * r) (reducedOf k t (y * r))
   unfolding reducedOf signOf

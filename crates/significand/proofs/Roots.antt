@@ -1,12 +1,12 @@
 -- The root's series b against √(N W) and √(N (W + 1)), and the inverse root's against N √(N / W) and N √(N / (W + 1)). Each proof multiplies its
 -- goal by 256 Z². A difference (b − 2)² is written b² + 4 on one side and 4 b on the other. Assumes nothing.
-use mathlib.Core.Bool.{Bool, true, false, not}
+use mathlib.Core.Bool.{Bool, not}
 use mathlib.Core.List.{List, [], _∷_}
-use Prim.Native.Nat.{ℕ, _≤_, _<_}
+use Prim.Native.Nat.{_≤_, _<_}
 use native.Mathlib.Omega.{arith}
-use Rattle.kinds.specs.Operation.{Op, reciprocal, root, inverseRoot}
-use Rattle.numbers.proofs.Ring.{E, v, #, _⊕_, _⊗_, ev, H, _⊙_⊑_, nlin}
-use Rattle.significand.proofs.Series.{z, x2, x3, x4, y, q, w, s, n, x, rise, fall, gains, losses, env, Digits, Summed, by-signs, carry-less, carry-more, carry-fits, margin, scaled-least, series-least}
+use Rattle.kinds.specs.Operation.{Op, root, inverseRoot}
+use Rattle.numbers.proofs.Ring.{E, #, _⊕_, _⊗_, ev, H, _⊙_⊑_, nlin}
+use Rattle.significand.proofs.Series.{Point, env, z, x2, q, w, s, n, rise, fall, gains, losses, Summed, by-signs, carry-less, carry-more, carry-fits, margin, scaled-least, series-least}
 
 abbrev zz : E
 zz = # 256 ⊗ z ⊗ z
@@ -82,45 +82,34 @@ by-inverse-low sign =
     ∷ # 14336 ⊗ z ⊗ n ⊙ w ⊕ fall sign ⊑ n ⊕ rise sign
     ∷ [])))
 
-module _ (Z a2 a3 a4 h b W S : ℕ) where
-  positive : 128 ≤ Z → 0 < ev (env Z a2 a3 a4 h b W S) zz
-  positive big = nlin (env Z a2 a3 a4 h b W S) (z ⊙ # 1 ⊑ z ∷ # 1 ⊙ # 1 ⊑ z ∷ []) (# 1) zz tt (omega arith)
+positive : (P : Point) → 128 ≤ P .Z → 0 < ev (env P) zz
+positive P big = nlin (env P) (z ⊙ # 1 ⊑ z ∷ # 1 ⊙ # 1 ⊑ z ∷ []) (# 1) zz tt (omega arith)
 
-  module _ (sign : Bool) where
-    module _ (F : Summed root sign Z a2 a3 a4 h b W S) where
-      -- (b − 2)² ≤ N W
-      pub root-high : ev (env Z a2 a3 a4 h b W S) (q ⊗ q ⊕ # 4) ≤ ev (env Z a2 a3 a4 h b W S) (n ⊗ w ⊕ # 4 ⊗ q)
-      root-high =
-          by-signs Z a2 a3 a4 h b W S (F .digits) sign zz by-root-high (q ⊗ q ⊕ # 4) (n ⊗ w ⊕ # 4 ⊗ q) tt tt (positive (F .digits .big))
-          (omega (arith, carry-fits Z a2 a3 a4 h b W S (F .digits) sign, series-least Z a2 a3 a4 h b W S root sign F))
+module _ (P : Point) (sign : Bool) where
+  module _ (F : Summed root sign P) where
+    -- (b − 2)² ≤ N W
+    pub root-high : ev (env P) (q ⊗ q ⊕ # 4) ≤ ev (env P) (n ⊗ w ⊕ # 4 ⊗ q)
+    root-high =
+        by-signs P (F .digits) sign zz by-root-high (q ⊗ q ⊕ # 4) (n ⊗ w ⊕ # 4 ⊗ q) tt tt (positive P (F .digits .big))
+        (omega (arith, carry-fits P (F .digits) sign, series-least P root sign F))
 
-      -- N (W + 1) ≤ (b + 2)²
-      pub root-low : ev (env Z a2 a3 a4 h b W S) (n ⊗ (w ⊕ # 1)) ≤ ev (env Z a2 a3 a4 h b W S) ((q ⊕ # 2) ⊗ (q ⊕ # 2))
-      root-low =
-          by-signs Z a2 a3 a4 h b W S (F .digits) sign zz by-root-low (n ⊗ (w ⊕ # 1)) ((q ⊕ # 2) ⊗ (q ⊕ # 2)) tt tt (positive (F .digits .big))
-          (omega (arith, carry-fits Z a2 a3 a4 h b W S (F .digits) (not sign), series-least Z a2 a3 a4 h b W S root sign F))
+    -- N (W + 1) ≤ (b + 2)²
+    pub root-low : ev (env P) (n ⊗ (w ⊕ # 1)) ≤ ev (env P) ((q ⊕ # 2) ⊗ (q ⊕ # 2))
+    root-low =
+        by-signs P (F .digits) sign zz by-root-low (n ⊗ (w ⊕ # 1)) ((q ⊕ # 2) ⊗ (q ⊕ # 2)) tt tt (positive P (F .digits .big))
+        (omega (arith, carry-fits P (F .digits) (not sign), series-least P root sign F))
 
-    module _ (F : Summed inverseRoot sign Z a2 a3 a4 h b W S) where
-      -- (b − 2)² (W + 1) ≤ N³
-      pub inverse-high : ev (env Z a2 a3 a4 h b W S) ((q ⊗ q ⊕ # 4) ⊗ (w ⊕ # 1)) ≤ ev (env Z a2 a3 a4 h b W S) (n ⊗ n ⊗ n ⊕ # 4 ⊗ q ⊗ (w ⊕ # 1))
-      inverse-high =
-          by-signs Z a2 a3 a4 h b W S (F .digits) sign zz by-inverse-high ((q ⊗ q ⊕ # 4) ⊗ (w ⊕ # 1)) (n ⊗ n ⊗ n ⊕ # 4 ⊗ q ⊗ (w ⊕ # 1)) tt tt
-          (positive (F .digits .big))
-          (omega (
-            arith,
-            carry-fits Z a2 a3 a4 h b W S (F .digits) (not sign),
-            series-least Z a2 a3 a4 h b W S inverseRoot sign F,
-            scaled-least Z a2 a3 a4 h b W S inverseRoot sign F,
-          ))
+  module _ (F : Summed inverseRoot sign P) where
+    -- (b − 2)² (W + 1) ≤ N³
+    pub inverse-high : ev (env P) ((q ⊗ q ⊕ # 4) ⊗ (w ⊕ # 1)) ≤ ev (env P) (n ⊗ n ⊗ n ⊕ # 4 ⊗ q ⊗ (w ⊕ # 1))
+    inverse-high =
+        by-signs P (F .digits) sign zz by-inverse-high ((q ⊗ q ⊕ # 4) ⊗ (w ⊕ # 1)) (n ⊗ n ⊗ n ⊕ # 4 ⊗ q ⊗ (w ⊕ # 1)) tt tt
+        (positive P (F .digits .big))
+        (omega (arith, carry-fits P (F .digits) (not sign), series-least P inverseRoot sign F, scaled-least P inverseRoot sign F))
 
-      -- 4 N³ ≤ (2 b + 9)² W
-      pub inverse-low : ev (env Z a2 a3 a4 h b W S) (# 4 ⊗ n ⊗ n ⊗ n) ≤ ev (env Z a2 a3 a4 h b W S) ((# 2 ⊗ q ⊕ # 9) ⊗ (# 2 ⊗ q ⊕ # 9) ⊗ w)
-      inverse-low =
-          by-signs Z a2 a3 a4 h b W S (F .digits) sign zz by-inverse-low (# 4 ⊗ n ⊗ n ⊗ n) ((# 2 ⊗ q ⊕ # 9) ⊗ (# 2 ⊗ q ⊕ # 9) ⊗ w) tt tt
-          (positive (F .digits .big))
-          (omega (
-            arith,
-            carry-fits Z a2 a3 a4 h b W S (F .digits) sign,
-            series-least Z a2 a3 a4 h b W S inverseRoot sign F,
-            scaled-least Z a2 a3 a4 h b W S inverseRoot sign F,
-          ))
+    -- 4 N³ ≤ (2 b + 9)² W
+    pub inverse-low : ev (env P) (# 4 ⊗ n ⊗ n ⊗ n) ≤ ev (env P) ((# 2 ⊗ q ⊕ # 9) ⊗ (# 2 ⊗ q ⊕ # 9) ⊗ w)
+    inverse-low =
+        by-signs P (F .digits) sign zz by-inverse-low (# 4 ⊗ n ⊗ n ⊗ n) ((# 2 ⊗ q ⊕ # 9) ⊗ (# 2 ⊗ q ⊕ # 9) ⊗ w) tt tt
+        (positive P (F .digits .big))
+        (omega (arith, carry-fits P (F .digits) sign, series-least P inverseRoot sign F, scaled-least P inverseRoot sign F))

@@ -1,5 +1,5 @@
--- What the three series have in common, over any radix Z of at least 128: their variables, their sums as polynomials, and the facts
--- that each is bounded from. Assumes nothing.
+-- What the three series have in common, over any radix Z of at least 128: their variables, their sums as polynomials, and the facts that
+-- each is bounded from. Assumes nothing.
 use mathlib.Core.Path.{_≡_}
 use mathlib.Core.Bool.{Bool, true, false}
 use mathlib.Core.List.{List, [], _∷_}
@@ -8,7 +8,21 @@ use native.Mathlib.Omega.{arith}
 use Rattle.kinds.specs.Operation.{Op, reciprocal, root, inverseRoot}
 use Rattle.numbers.proofs.Ring.{E, v, #, _⊕_, _⊗_, ev, nf, H, _⊙_⊑_, lows, highs, Hold, Left, nlin, nlin×, prove}
 
--- the variables: Z, the digits a2, a3, a4 of a, the carry h, the series b, W, which is N + a or N − a − 1, and the sum S
+-- the radix Z, the digits a2, a3, a4 of a, the carry h, the series b, W, which is N + a or N − a − 1, and the sum S
+pub record Point : Type 0 where
+  pub Z : ℕ
+  pub a2 : ℕ
+  pub a3 : ℕ
+  pub a4 : ℕ
+  pub h : ℕ
+  pub b : ℕ
+  pub W : ℕ
+  pub S : ℕ
+
+abbrev pub env : Point → List ℕ
+env P = P .Z ∷ P .a2 ∷ P .a3 ∷ P .a4 ∷ P .h ∷ P .b ∷ P .W ∷ P .S ∷ []
+
+-- the same as variables of a polynomial
 abbrev pub z : E
 z = v 0
 
@@ -73,26 +87,23 @@ divisor root = # 16 ⊗ z
 divisor inverseRoot = # 16 ⊗ z
 
 -- the digits are below Z, and h is a2² / Z, floored
-pub record Digits (Z a2 a3 a4 h : ℕ) : Type 0 where
-  pub big : 128 ≤ Z
-  pub below2 : a2 < Z
-  pub below3 : a3 < Z
-  pub below4 : a4 < Z
-  pub carry-low : Z * h ≤ a2 * a2
-  pub carry-high : a2 * a2 < Z * h + Z
-
-abbrev pub env : ℕ → ℕ → ℕ → ℕ → ℕ → ℕ → ℕ → ℕ → List ℕ
-env Z a2 a3 a4 h b W S = Z ∷ a2 ∷ a3 ∷ a4 ∷ h ∷ b ∷ W ∷ S ∷ []
+pub record Digits (P : Point) : Type 0 where
+  pub big : 128 ≤ P .Z
+  pub below2 : P .a2 < P .Z
+  pub below3 : P .a3 < P .Z
+  pub below4 : P .a4 < P .Z
+  pub carry-low : P .Z * P .h ≤ P .a2 * P .a2
+  pub carry-high : P .a2 * P .a2 < P .Z * P .h + P .Z
 
 -- S is the sum, b is S over its divisor, floored, and W is N + a or N − a − 1
-pub record Summed (op : Op) (sign : Bool) (Z a2 a3 a4 h b W S : ℕ) : Type 0 where
-  pub digits : Digits Z a2 a3 a4 h
-  pub sum : ev (env Z a2 a3 a4 h b W S) (s ⊕ losses op sign) ≡ ev (env Z a2 a3 a4 h b W S) (gains op sign)
-  pub floor-low : ev (env Z a2 a3 a4 h b W S) (divisor op ⊗ q) ≤ S
-  pub floor-high : S < ev (env Z a2 a3 a4 h b W S) (divisor op ⊗ q ⊕ divisor op)
-  pub at : ev (env Z a2 a3 a4 h b W S) (w ⊕ fall sign) ≡ ev (env Z a2 a3 a4 h b W S) (n ⊕ rise sign)
+pub record Summed (op : Op) (sign : Bool) (P : Point) : Type 0 where
+  pub digits : Digits P
+  pub sum : ev (env P) (s ⊕ losses op sign) ≡ ev (env P) (gains op sign)
+  pub floor-low : ev (env P) (divisor op ⊗ q) ≤ P .S
+  pub floor-high : P .S < ev (env P) (divisor op ⊗ q ⊕ divisor op)
+  pub at : ev (env P) (w ⊕ fall sign) ≡ ev (env P) (n ⊕ rise sign)
 
--- a2² is at least Z h, and at most Z h + Z: the two sides of the one that is wanted where the sign is +, and of the other where it is −
+-- a2² is at least Z h and at most Z h + Z: the two sides of the first where the Bool is true, and of the second where it is false
 abbrev pub carry-less : Bool → E
 carry-less true = z ⊗ y
 carry-less false = x2 ⊗ x2
@@ -112,33 +123,30 @@ from-128 = # 128 ⊕ z ∷ x2 ∷ x3 ∷ x4 ∷ y ∷ q ∷ w ∷ s ∷ []
 abbrev pub Passes : E → List H → E → E → Type 0
 Passes m hs l r = Left tops from-128 (nf (m ⊗ l ⊕ highs hs)) (nf (m ⊗ r ⊕ lows hs))
 
-module _ (Z a2 a3 a4 h b W S : ℕ) (D : Digits Z a2 a3 a4 h) where
-  abbrev ρ : List ℕ
-  ρ = env Z a2 a3 a4 h b W S
-
-  carry-small : h ≤ a2
-  carry-small = nlin× ρ z (# 1 ⊙ z ⊗ y ⊑ x2 ⊗ x2 ∷ x2 ⊙ x2 ⊑ z ∷ []) y x2 tt (omega arith) (omega arith)
+module _ (P : Point) (D : Digits P) where
+  carry-small : P .h ≤ P .a2
+  carry-small = nlin× (env P) z (# 1 ⊙ z ⊗ y ⊑ x2 ⊗ x2 ∷ x2 ⊙ x2 ⊑ z ∷ []) y x2 tt (omega arith) (omega arith)
 
   -- l ≤ r, from m · l ≤ m · r, from the hypotheses: what they leave over is compared where each of a2, a3, a4, h is Z
-  pub by-tops : (m : E) (hs : List H) (l r : E) → Passes m hs l r → 0 < ev ρ m → Hold ρ hs → ev ρ l ≤ ev ρ r
+  pub by-tops : (m : E) (hs : List H) (l r : E) → Passes m hs l r → 0 < ev (env P) m → Hold (env P) hs → ev (env P) l ≤ ev (env P) r
   by-tops m hs l r t p held =
-      prove ρ (env (Z - 128) a2 a3 a4 h b W S) tops from-128 m hs l r t (omega (arith, carry-small)) (omega arith) p held
+      prove (env P) ((P .Z - 128) ∷ P .a2 ∷ P .a3 ∷ P .a4 ∷ P .h ∷ P .b ∷ P .W ∷ P .S ∷ []) tops from-128 m hs l r t (omega (arith, carry-small))
+      (omega arith) p held
 
   -- the same for either sign
-  pub by-signs : (sign : Bool) (m : E) (hs : Bool → List H) (l r : E) → Passes m (hs true) l r → Passes m (hs false) l r → 0 < ev ρ m
-      → Hold ρ (hs sign) → ev ρ l ≤ ev ρ r
+  pub by-signs : (sign : Bool) (m : E) (hs : Bool → List H) (l r : E) → Passes m (hs true) l r → Passes m (hs false) l r → 0 < ev (env P) m
+      → Hold (env P) (hs sign) → ev (env P) l ≤ ev (env P) r
   by-signs true m hs l r t f p held = by-tops m (hs true) l r t p held
   by-signs false m hs l r t f p held = by-tops m (hs false) l r f p held
 
-  pub carry-fits : (sign : Bool) → ev ρ (carry-less sign) ≤ ev ρ (carry-more sign)
+  pub carry-fits : (sign : Bool) → ev (env P) (carry-less sign) ≤ ev (env P) (carry-more sign)
   carry-fits true = omega arith
   carry-fits false = omega arith
 
--- 2 Z³, more than b and W are from N
+-- 2 Z³: b and W are no further from N
 abbrev pub margin : E
 margin = # 2 ⊗ z ⊗ z ⊗ z
 
--- b ≤ N + 2 Z³ and N ≤ b + 2 Z³, from the floor and the sum
 abbrev by-most : Op → Bool → List H
 by-most op sign = # 1 ⊙ divisor op ⊗ q ⊑ s ∷ # 1 ⊙ s ⊕ losses op sign ⊑ gains op sign ∷ []
 
@@ -161,32 +169,27 @@ least-passes root false = tt
 least-passes inverseRoot true = tt
 least-passes inverseRoot false = tt
 
-module _ (Z a2 a3 a4 h b W S : ℕ) where
-  divisor-positive : (op : Op) → 128 ≤ Z → 0 < ev (env Z a2 a3 a4 h b W S) (divisor op)
-  divisor-positive reciprocal big = omega arith
-  divisor-positive root big = omega arith
-  divisor-positive inverseRoot big = omega arith
+divisor-positive : (P : Point) (op : Op) → 128 ≤ P .Z → 0 < ev (env P) (divisor op)
+divisor-positive P reciprocal big = omega arith
+divisor-positive P root big = omega arith
+divisor-positive P inverseRoot big = omega arith
 
-  module _ (op : Op) (sign : Bool) (F : Summed op sign Z a2 a3 a4 h b W S) where
-    pub series-most : ev (env Z a2 a3 a4 h b W S) q ≤ ev (env Z a2 a3 a4 h b W S) (n ⊕ margin)
-    series-most =
-        by-tops Z a2 a3 a4 h b W S (F .digits) (divisor op) (by-most op sign) q (n ⊕ margin) (most-passes op sign)
-        (divisor-positive op (F .digits .big)) (omega arith)
+module _ (P : Point) (op : Op) (sign : Bool) (F : Summed op sign P) where
+  pub series-most : ev (env P) q ≤ ev (env P) (n ⊕ margin)
+  series-most =
+      by-tops P (F .digits) (divisor op) (by-most op sign) q (n ⊕ margin) (most-passes op sign) (divisor-positive P op (F .digits .big)) (omega arith)
 
-    pub series-least : ev (env Z a2 a3 a4 h b W S) n ≤ ev (env Z a2 a3 a4 h b W S) (q ⊕ margin)
-    series-least =
-        by-tops Z a2 a3 a4 h b W S (F .digits) (divisor op) (by-least op sign) n (q ⊕ margin) (least-passes op sign)
-        (divisor-positive op (F .digits .big)) (omega arith)
+  pub series-least : ev (env P) n ≤ ev (env P) (q ⊕ margin)
+  series-least =
+      by-tops P (F .digits) (divisor op) (by-least op sign) n (q ⊕ margin) (least-passes op sign) (divisor-positive P op (F .digits .big)) (omega arith)
 
-    pub scaled-least : ev (env Z a2 a3 a4 h b W S) n ≤ ev (env Z a2 a3 a4 h b W S) (w ⊕ margin)
-    scaled-least =
-        by-signs Z a2 a3 a4 h b W S (F .digits) sign (# 1) (λ (σ : Bool). # 1 ⊙ n ⊕ rise σ ⊑ w ⊕ fall σ ∷ []) n (w ⊕ margin) tt tt (omega arith)
-        (omega arith)
+  pub scaled-least : ev (env P) n ≤ ev (env P) (w ⊕ margin)
+  scaled-least =
+      by-signs P (F .digits) sign (# 1) (λ (sg : Bool). # 1 ⊙ n ⊕ rise sg ⊑ w ⊕ fall sg ∷ []) n (w ⊕ margin) tt tt (omega arith) (omega arith)
 
--- 2 Z³ is at most a 64th of N
+-- 2 Z³ is at most a 64th of N, and N is 128 or more
 pub margin-small : (Z : ℕ) → 128 ≤ Z → 64 * (2 * Z * Z * Z) ≤ Z * Z * Z * Z
 margin-small Z big = nlin (Z ∷ []) (z ⊗ z ⊗ z ⊙ # 128 ⊑ z ∷ []) (# 64 ⊗ (# 2 ⊗ z ⊗ z ⊗ z)) n tt (omega arith)
 
--- N is 128 or more
 pub whole-big : (Z : ℕ) → 128 ≤ Z → 128 ≤ Z * Z * Z * Z
 whole-big Z big = nlin (Z ∷ []) (z ⊗ z ⊗ z ⊕ z ⊗ z ⊕ z ⊕ # 1 ⊙ # 128 ⊑ z ∷ []) (# 128) n tt (omega arith)

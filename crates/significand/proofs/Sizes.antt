@@ -6,13 +6,13 @@ use Prim.Native.Nat.{ℕ, _+_, _*_, _-_, _/_, _^_, _≤_, _<_}
 use native.Mathlib.Omega.{arith}
 use Rattle.kinds.specs.Operation.{Op, reciprocal, root, inverseRoot}
 use Rattle.numbers.proofs.Exponents.{power-of}
-use Rattle.significand.specs.Steps.{indexOf, factorOf, signOf, reducedOf, digit2, digit3, digit4, carryOf, sumOf, seriesOf, multiplierOf, rawOf}
+use Rattle.significand.specs.Steps.{indexOf, factorOf, reducedOf, seriesOf, multiplierOf, rawOf}
 use Rattle.significand.specs.Distance.{Significand, distanceOf}
 use Rattle.significand.proofs.Series.{series-most, series-least}
 use Rattle.significand.proofs.Scale.{whole-is}
 use Rattle.significand.proofs.General.{multiplier-most}
-use Rattle.significand.proofs.Reduction.{scaledOf, least, most, three-digits}
-use Rattle.significand.proofs.Sums.{summed}
+use Rattle.significand.proofs.Reduction.{least, most, reduced-small}
+use Rattle.significand.proofs.Sums.{pointOf, summed}
 use Rattle.significand.proofs.Multiplier.{multiplies}
 use Rattle.significand.proofs.Distance.{promised, answer-least, answer-most}
 
@@ -22,24 +22,10 @@ module _ (k a : ℕ) (h : 7 ≤ k) (below : a < 2 ^ (3 * k)) (op : Op) (sign : B
   margin = omega (arith, power-of (3 * k + 1) (1 ∷ k ∷ k ∷ k ∷ []) (omega arith))
 
   pub series-upto : seriesOf k op sign a ≤ 2 ^ (4 * k) + 2 ^ (3 * k + 1)
-  series-upto =
-      omega (
-        arith,
-        series-most (2 ^ k) (digit2 k a) (digit3 k a) (digit4 k a) (carryOf k (digit2 k a)) (seriesOf k op sign a) (scaledOf sign (2 ^ (4 * k)) a)
-        (sumOf k op sign a) op sign (summed k a h below op sign),
-        whole-is k,
-        margin,
-      )
+  series-upto = omega (arith, series-most (pointOf k op sign a) op sign (summed k a h below op sign), whole-is k, margin)
 
   pub series-from : 2 ^ (4 * k) ≤ seriesOf k op sign a + 2 ^ (3 * k + 1)
-  series-from =
-      omega (
-        arith,
-        series-least (2 ^ k) (digit2 k a) (digit3 k a) (digit4 k a) (carryOf k (digit2 k a)) (seriesOf k op sign a) (scaledOf sign (2 ^ (4 * k)) a)
-        (sumOf k op sign a) op sign (summed k a h below op sign),
-        whole-is k,
-        margin,
-      )
+  series-from = omega (arith, series-least (pointOf k op sign a) op sign (summed k a h below op sign), whole-is k, margin)
 
 -- M is at most 2^(4k + 1)
 pub multiplier-upto : (k r p : ℕ) → 7 ≤ k → p ≤ 1 → 2 ^ k ≤ r → r ≤ 2 ^ (k + 1) → (op : Op) → multiplierOf k op r p ≤ 2 ^ (4 * k + 1)
@@ -62,7 +48,7 @@ sizes op y p e Y =
     let a : ℕ = reducedOf 7 3 (y * factorOf 7 (indexOf 7 3 y)) in
     let l : 128 ≤ factorOf 7 (indexOf 7 3 y) = least 7 3 y (omega arith) Y in
     let m : factorOf 7 (indexOf 7 3 y) ≤ 256 = most 7 3 y (omega arith) Y in
-    let d : a < 2 ^ 21 = three-digits 7 3 y (omega arith) Y in
+    let d : a < 2 ^ 21 = reduced-small 7 3 y (omega arith) Y in
     record {
       factor-least = l;
       factor-most = m;

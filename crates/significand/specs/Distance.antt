@@ -21,7 +21,7 @@ Over root k m y p x = y * 2 ^ (8 * k + p) < x * x * 2 ^ m
 Over inverseRoot k m y p x = 2 ^ (8 * k + m) < x * x * y * 2 ^ p
 
 -- g is less than d away from it
-pub record Within (op : Op) (k t y p d g : ℕ) : Type 0 where
+pub record Near (op : Op) (k t y p d g : ℕ) : Type 0 where
   pub enough : d ≤ g
   pub under : Under op k (3 * k + t - 1) y p (g - d)
   pub over : Over op k (3 * k + t - 1) y p (g + d)
