@@ -68,6 +68,7 @@ module _ (k r p M : ℕ) (h : 7 ≤ k) where
     where
       top : r ≤ 2 * Z
       top = omega (arith, most, power-of (k + 1) (1 ∷ k ∷ []) (omega arith))
+
       go : (op : Op) → Multiplies op k r p M → M ≤ 2 * N
       go reciprocal is = omega (arith, recip-multiplier Z N (2 ^ p) r M top (whole-is k) (recip-twice is))
       go root near = root-multiplier Z N (2 ^ p) r M least (parity-most p e) (root-low near)
