@@ -1,6 +1,6 @@
 -- What a raw call that passed its questions may rely on, and that its answer is as near as promised. Assumes nothing.
 use mathlib.Core.Path.{_≡_}
-use mathlib.Core.Bool.{Bool, true, false, not, _&&_, _||_}
+use mathlib.Core.Bool.{Bool, true, false, not, _&&_}
 use mathlib.Core.Logic.{⊎-elim}
 use Prim.Native.Nat.{ℕ, suc, _^_, _≤_}
 use native.Mathlib.Omega.{arith}
@@ -8,7 +8,6 @@ use mir.Facts.{and-yes, or-yes, leb-yes, ltb-yes, eqb-yes}
 use lib.Dec.{T, eqb, leb, ltb}
 use Rattle.kinds.specs.Operation.{Op, isOperation, opOf, isReciprocal}
 use Rattle.kinds.specs.Question.{ask}
-use Rattle.significand.specs.Steps.{rawOf}
 use Rattle.significand.specs.Call.{isSignificand, isParity, rawRefusal, rawAnswer}
 use Rattle.significand.specs.Distance.{Significand, Near, distanceOf}
 use Rattle.significand.proofs.Distance.{distance}
