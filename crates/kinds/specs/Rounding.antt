@@ -1,7 +1,7 @@
 -- The four roundings, and which of two neighbours each takes. Assumes nothing.
-use Prim.Native.Nat.{ℕ}
+use Prim.Native.Nat.{ℕ, suc, _%_}
 use mathlib.Core.Bool.{Bool, true, false, cond, not}
-use lib.Dec.{eqb, leb}
+use lib.Dec.{eqb, leb, ltb}
 
 pub data Mode : Type 0 where
   nearest up down towardZero : Mode
@@ -33,6 +33,19 @@ away down negative odd above = negative
 away towardZero negative odd below = false
 away towardZero negative odd half = false
 away towardZero negative odd above = false
+
+-- the place, from a product that grows with the number: its value at the lower neighbour against the limit that the exact value
+-- reaches, and its value at the sum of both neighbours, twice the midpoint, against the limit for twice the exact value
+unfoldable pub placeBy : ℕ → ℕ → ℕ → ℕ → Place
+placeBy low limit middle doubled =
+    cond (eqb low limit) exact
+    (cond (ltb middle doubled) above
+    (cond (eqb middle doubled) half
+    below))
+
+-- the lower neighbour t, or the next, as the rounding decides
+unfoldable pub roundedBy : Mode → Bool → ℕ → Place → ℕ
+roundedBy mode negative t place = cond (away mode negative (eqb (t % 2) 1) place) (suc t) t
 
 -- the place by two bits: whether the midpoint is reached, and whether anything lies above what was reached
 abbrev pub placeOf : Bool → Bool → Place

@@ -1,0 +1,34 @@
+-- Where the lower and the upper answer agree, asked of an operand's value. Assumes nothing.
+use mathlib.Core.Path.{_≡_}
+use Prim.Native.Nat.{ℕ, suc, _*_, _^_, _≤_}
+use lib.IntN.{ℤ, pos, negsuc, natAbs}
+use Rattle.kinds.specs.Operation.{Op, reciprocal, root, inverseRoot}
+use Rattle.ieee.specs.Format.{Format, biasOf, unitOf}
+
+-- x is y × b^e, the exponent being any whole number
+abbrev pub TimesPower : ℕ → ℤ → ℕ → ℕ → Type 0
+TimesPower b (pos n) x y = x ≡ y * b ^ n
+TimesPower b (negsuc n) x y = x * b ^ suc n ≡ y
+
+-- The value of a magnitude x, which counts units of 2^-u, is x × 2^-u. It is a power of two with an exponent from −n to n,
+pub record PowerOfTwo (u n x : ℕ) : Type 0 where
+  pub exponent : ℤ
+  pub within : natAbs exponent ≤ n
+  pub is : TimesPower 2 exponent x (2 ^ u)
+
+-- a whole square times a power of four,
+pub record SquareTimesPowerOfFour (u x : ℕ) : Type 0 where
+  pub base : ℕ
+  pub exponent : ℤ
+  pub is : TimesPower 4 exponent x (base * base * 2 ^ u)
+
+-- or a power of four
+pub record PowerOfFour (u x : ℕ) : Type 0 where
+  pub exponent : ℤ
+  pub is : TimesPower 4 exponent x (2 ^ u)
+
+-- the condition of each operation on the magnitude of its operand
+abbrev pub Agree : Format → Op → ℕ → Type 0
+Agree f reciprocal x = PowerOfTwo (unitOf f) (biasOf f) x
+Agree f root x = SquareTimesPowerOfFour (unitOf f) x
+Agree f inverseRoot x = PowerOfFour (unitOf f) x

@@ -1,0 +1,5 @@
+pub mod Format
+pub mod Rounded
+pub mod Answer
+pub mod Call
+pub mod Agree

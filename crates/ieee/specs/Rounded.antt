@@ -1,0 +1,64 @@
+-- The exact result of an operation among the numbers of a format, and its rounding. Assumes nothing.
+use Prim.Native.Nat.{ℕ, suc, _+_, _*_, _-_, _^_}
+use mathlib.Core.Bool.{Bool, cond, not, _&&_, _||_}
+use lib.Dec.{leb, ltb, eqb}
+use Rattle.kinds.specs.Operation.{Op, reciprocal, root, inverseRoot}
+use Rattle.kinds.specs.Rounding.{Mode, Place, placeBy, roundedBy}
+use Rattle.kinds.specs.Flag.{overflow, underflow, inexact}
+use Rattle.numbers.specs.Greatest.{greatest}
+use Rattle.ieee.specs.Format.{Format, unitOf, infinity, leastNormal, magnitudeOf}
+
+-- The operand has the magnitude x and some number the magnitude v, both in units of 2^-u. The number is at most the exact result
+-- where `side` is at most `limit`: for the reciprocal x·v ≤ 2^2u, for the root v² ≤ x·2^u, for the inverse root v²·x ≤ 2^3u
+abbrev pub side : Op → ℕ → ℕ → ℕ
+side reciprocal x v = x * v
+side root x v = v * v
+side inverseRoot x v = v * v * x
+
+abbrev pub limit : ℕ → Op → ℕ → ℕ
+limit u reciprocal x = 2 ^ (2 * u)
+limit u root x = x * 2 ^ u
+limit u inverseRoot x = 2 ^ (3 * u)
+
+-- how often the limit is taken for twice the exact result
+abbrev pub twice : Op → ℕ
+twice reciprocal = 2
+twice root = 4
+twice inverseRoot = 4
+
+-- the magnitude v is at most the exact result
+unfoldable pub fits : Format → Op → ℕ → ℕ → Bool
+fits f op x v = leb (side op x v) (limit (unitOf f) op x)
+
+-- the lower neighbour: the greatest finite pattern whose magnitude is at most the exact result
+unfoldable pub lowerOf : Format → Op → ℕ → ℕ
+lowerOf f op x =
+    greatest (f .exponentBits + f .fractionBits) (λ (t : ℕ). ltb t (infinity f) && fits f op x (magnitudeOf f t))
+
+-- where the exact result lies between the pattern t and the next
+unfoldable pub placeAt : Format → Op → ℕ → ℕ → Place
+placeAt f op x t =
+    placeBy (side op x (magnitudeOf f t)) (limit (unitOf f) op x)
+    (side op x (magnitudeOf f t + magnitudeOf f (suc t))) (twice op * limit (unitOf f) op x)
+
+-- the rounded magnitude, as a pattern
+unfoldable pub roundedOf : Format → Op → Mode → Bool → ℕ → ℕ
+roundedOf f op mode negative x = roundedBy mode negative (lowerOf f op x) (placeAt f op x (lowerOf f op x))
+
+-- the rounded result is not the exact one
+unfoldable pub isInexact : Format → Op → ℕ → Bool
+isInexact f op x = not (eqb (side op x (magnitudeOf f (lowerOf f op x))) (limit (unitOf f) op x))
+
+-- with no end to the exponents the rounded result would be infinity's number or more
+unfoldable pub isOverflow : Format → Op → Mode → Bool → ℕ → Bool
+isOverflow f op mode negative x =
+    fits f op x (magnitudeOf f (infinity f)) || eqb (roundedOf f op mode negative x) (infinity f)
+
+-- the exact result is below the least normal number, before rounding, and inexact
+unfoldable pub isUnderflow : Format → Op → ℕ → Bool
+isUnderflow f op x = not (fits f op x (magnitudeOf f (leastNormal f))) && isInexact f op x
+
+-- the flags of a rounded result
+unfoldable pub flagsOf : Format → Op → Mode → Bool → ℕ → ℕ
+flagsOf f op mode negative x =
+    cond (isOverflow f op mode negative x) overflow 0 + cond (isUnderflow f op x) underflow 0 + cond (isInexact f op x) inexact 0

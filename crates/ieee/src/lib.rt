@@ -1,0 +1,1 @@
+// IEEE 754: formats, the numbers around an exact result, rounded answers and flags. Definitions and theorems only, no code.
