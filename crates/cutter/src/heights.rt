@@ -6,8 +6,9 @@ ghost use Rattle.words.specs.Word.{wordAt};
 ghost use Rattle.words.specs.Signed.{signed};
 ghost use Rattle.words.specs.Parts.{partsOf};
 ghost use Rattle.cutter.specs.Map.{acrossAt, alongAt};
-ghost use Rattle.cutter.specs.Asked.{Heights};
-ghost use Rattle.cutter.specs.Normal.{NormalOf};
+ghost use Rattle.cutter.specs.Asked.{Heights, Ready, Inner};
+ghost use Rattle.cutter.specs.Normal.{NormalOf, Measured};
+use crate::trailer::Trailer;
 use words::Signed;
 use words::difference;
 use words::raised;
@@ -31,9 +32,31 @@ fn slope(map: &[u8], i: usize, j: usize, count: usize) -> Signed
     difference(raised(height_word(map, i, count)), raised(height_word(map, j, count)))
 }
 
-// The normal by its first two components and its squared length.
+// The normal by its first two components, −dx and −dy, and its squared length.
 pub struct Normal {
     pub x: Signed,
     pub y: Signed,
     pub squared: u64,
+}
+
+// The normal at an inner point.
+pub fn normal_at(map: &[u8], trailer: Trailer, column: usize, row: usize) -> Normal
+    requires { ⌜ Ready (now map) trailer ⌝ }
+    requires { ⌜ Inner (trailer .width) (trailer .depth) column row ⌝ }
+    ensures { λ r. ⌜ NormalOf (acrossAt (now (map .entry)) (trailer .width) column row) (alongAt (now (map .entry)) (trailer .width) column row) r × Measured r (trailer .step) ⌝ }
+{
+    let width = trailer.width;
+    let count = width * trailer.depth;
+    let place = row * width + column;
+    let x = slope(map, place - 1, place + 1, count);
+    let y = slope(map, place - width, place + width, count);
+    let squared = squared_length(x.magnitude, y.magnitude, trailer.step);
+    Normal { x, y, squared }
+}
+
+fn squared_length(x: u64, y: u64, step: u64) -> u64
+    requires { ⌜ (x ≤ 100000) × (y ≤ 100000) × (step ≤ 10000) ⌝ }
+    ensures { λ r. ⌜ r ≡ x * x + y * y + 4 * step * step ⌝ }
+{
+    x * x + y * y + 4 * step * step
 }
