@@ -78,7 +78,7 @@ steps-are step radius e =
     let y = within-is 1 12500 radius (p .1) in
     record { step-least = x .0; step-most = x .1; radius-least = y .0; radius-most = y .1 }
 
-heights-small : (m : List ℕ) (n : ℕ) → heightsWithin m n ≡ true → (i : ℕ) → i < n → natAbs (signed (wordAt m (4 * i))) ≤ 50000
+pub heights-small : (m : List ℕ) (n : ℕ) → heightsWithin m n ≡ true → (i : ℕ) → i < n → natAbs (signed (wordAt m (4 * i))) ≤ 50000
 unfolding heightsWithin
 heights-small m zero e i h = absurd (not-suc-le-zero h)
 heights-small m (suc n) e i h =
@@ -97,7 +97,7 @@ size-most w d s = mul-le-mul (s .narrow) (s .shallow)
 pub size-fits : (w d : ℕ) → Sizes w d → Fits w64 (w * d)
 size-fits w d s = omega (arith, size-most w d s)
 
-count-most : (w d : ℕ) → Sizes w d → (w - 2) * (d - 2) ≤ 3844
+pub count-most : (w d : ℕ) → Sizes w d → (w - 2) * (d - 2) ≤ 3844
 count-most w d s =
     let p : w - 2 ≤ 62 = omega (arith, s .narrow) in
     let q : d - 2 ≤ 62 = omega (arith, s .shallow) in
