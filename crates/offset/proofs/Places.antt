@@ -18,7 +18,7 @@ use Rattle.numbers.specs.Greatest.{greatest}
 use Rattle.numbers.proofs.Greatest.{greatest-is, squareFits, square-antitone}
 use Rattle.numbers.proofs.Ring.{v, #, _⊕_, _⊗_, _⊙_⊑_, nlin}
 use Rattle.offset.specs.Offset.{floorOver, placeOver, roundedOver}
-use Rattle.offset.specs.Inverse.{DoubledOver, Ranges, Sizes}
+use Rattle.offset.specs.Inverse.{DoubledOver, Ranges, Sizes, radiusMost}
 use Rattle.offset.proofs.Start.{start-most}
 
 -- the neighbour that is taken
@@ -121,8 +121,8 @@ module _ (component radius q : ℕ) (ranges : Ranges component radius q) where
         product-most = omega (arith, mul-le-mul (ranges .component-most) (ranges .radius-most));
         ratio =
             nlin (component ∷ radius ∷ q ∷ [])
-            (v 0 ⊗ v 0 ⊗ (v 1 ⊕ # 12500) ⊙ v 1 ⊑ # 12500 ∷ # 156250000 ⊙ v 0 ⊗ v 0 ⊑ v 2 ∷ [])
-            (v 0 ⊗ v 1 ⊗ (v 0 ⊗ v 1)) (# 156250000 ⊗ v 2) tt
+            (v 0 ⊗ v 0 ⊗ (v 1 ⊕ # radiusMost) ⊙ v 1 ⊑ # radiusMost ∷ # (radiusMost * radiusMost) ⊙ v 0 ⊗ v 0 ⊑ v 2 ∷ [])
+            (v 0 ⊗ v 1 ⊗ (v 0 ⊗ v 1)) (# (radiusMost * radiusMost) ⊗ v 2) tt
             (omega (arith, ranges .radius-most, ranges .squared));
         least = ranges .least;
         most = ranges .most;
@@ -153,9 +153,9 @@ module _ (component radius q : ℕ) (ranges : Ranges component radius q) where
         subst (λ (m : ℕ). m * m * q + left ≡ 4 * (component * radius * (component * radius))) e (doubled .whole) in
         omega (arith, mul-le-mul-left (radius * radius) (ranges .squared))
 
-    pub radius-most : (mode : Mode) (negative : Bool) (r : ℕ)
+    pub offset-most : (mode : Mode) (negative : Bool) (r : ℕ)
         → r ≡ roundedBy mode negative (floor / 2) (placeOf (eqb (floor % 2) 1) (not (eqb left 0))) → r ≤ radius
-    radius-most mode negative r e =
+    offset-most mode negative r e =
         by-cases (decLt floor (2 * radius))
         (λ h.
         let half : floor / 2 < radius = div-lt-iff-lt-mul (omega arith) .1 (omega arith) in

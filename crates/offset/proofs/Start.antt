@@ -4,14 +4,14 @@ use Prim.Native.Nat.{ℕ, _+_, _-_, _*_, _/_, _^_, _≤_, _<_}
 use mathlib.Core.Path.{_≡_}
 use mathlib.Core.List.{List, [], _∷_}
 use mathlib.Core.Logic.{by-cases}
-use native.Mathlib.Nat.{mul-le-mul, mul-le-mul-left, mul-pos, mul-div-le, lt-mul-div-succ}
+use native.Mathlib.Nat.{mul-le-mul, mul-pos, mul-div-le, lt-mul-div-succ}
 use native.Mathlib.Decide.{decLe, decLt}
 use native.Mathlib.Omega.{arith}
 use lib.Pow.{pow-pos}
 use mir.Syntax.{w64}
 use mir.Val.{Fits}
 use Rattle.numbers.proofs.Ring.{E, v, #, _⊕_, _⊗_, H, _⊙_⊑_, nlin, nlin×}
-use Rattle.offset.specs.Inverse.{InverseOf, DoubledOver, Ranges, Sizes}
+use Rattle.offset.specs.Inverse.{InverseOf, DoubledOver, Sizes, radiusMost}
 
 abbrev vn : E
 vn = v 0
@@ -41,7 +41,7 @@ module _ (n q low w t : ℕ) where
   ρ = n ∷ q ∷ low ∷ w ∷ t ∷ []
 
   -- 32 units of low make less than one of t
-  fine : 2 ^ 26 ≤ low → low * low * q ≤ 4 * (w * w) → n * n ≤ 156250000 * q → 32 * n ≤ w
+  fine : 2 ^ 26 ≤ low → low * low * q ≤ 4 * (w * w) → n * n ≤ radiusMost * radiusMost * q → 32 * n ≤ w
   fine least below small =
       by-cases (decLt w (32 * n))
       (λ h.
@@ -49,7 +49,7 @@ module _ (n q low w t : ℕ) where
       nlin ρ
       (# 4 ⊗ (vw ⊕ # 32 ⊗ vn) ⊙ vw ⊕ # 1 ⊑ # 32 ⊗ vn
       ∷ # 1 ⊙ vw ⊕ # 1 ⊑ # 32 ⊗ vn
-      ∷ # 4096 ⊙ vn ⊗ vn ⊑ # 156250000 ⊗ vq
+      ∷ # 4096 ⊙ vn ⊗ vn ⊑ # (radiusMost * radiusMost) ⊗ vq
       ∷ (vl ⊕ # 67108864) ⊗ vq ⊙ # 67108864 ⊑ vl
       ∷ # 1 ⊙ vl ⊗ vl ⊗ vq ⊑ # 4 ⊗ (vw ⊗ vw)
       ∷ [])
@@ -85,52 +85,45 @@ module _ (n q low w t : ℕ) where
       (λ h. omega arith)
 
 module _ (n q : ℕ) (sizes : Sizes n q) where
-  -- the products of the remainder fit
-  pub square-fits : Fits w64 (n * n)
-  square-fits = omega (arith, mul-le-mul (sizes .product-most) (sizes .product-most))
-
   pub limit-fits : Fits w64 (4 * (n * n))
   limit-fits = omega (arith, mul-le-mul (sizes .product-most) (sizes .product-most))
 
-  pub start-square-fits : (t : ℕ) → t * t * q ≤ 4 * (n * n) → Fits w64 (t * t)
-  start-square-fits t h = omega (arith, limit-fits .fits, mul-le-mul-left (t * t) (sizes .least))
+  -- what fits where t is not above 2n over √q
+  module _ (t : ℕ) (below : t * t * q ≤ 4 * (n * n)) where
+    -- which is at most twice the largest radius
+    pub start-most : t ≤ 2 * radiusMost
+    start-most =
+        by-cases (decLt (2 * radiusMost) t)
+        (λ l.
+        let no : 1 ≤ 0 =
+        nlin (n ∷ q ∷ t ∷ [])
+        ((v 2 ⊕ # (2 * radiusMost)) ⊗ v 1 ⊙ # (2 * radiusMost + 1) ⊑ v 2
+        ∷ # 1 ⊙ v 2 ⊗ v 2 ⊗ v 1 ⊑ # 4 ⊗ (v 0 ⊗ v 0)
+        ∷ # 4 ⊙ v 0 ⊗ v 0 ⊑ # (radiusMost * radiusMost) ⊗ v 1
+        ∷ # 1 ⊙ # 1 ⊑ v 1
+        ∷ [])
+        (# 1) (# 0) tt (omega arith) in
+        omega arith)
+        (λ l. omega arith)
 
-  pub start-product-fits : (t : ℕ) → t * t * q ≤ 4 * (n * n) → Fits w64 (t * t * q)
-  start-product-fits t h = omega (arith, limit-fits .fits)
+    pub more-fits : Fits w64 (t + 1)
+    more-fits = omega (arith, start-most)
 
-  -- 2n over √q is at most 25,000
-  pub start-most : (t : ℕ) → t * t * q ≤ 4 * (n * n) → t ≤ 25000
-  start-most t h =
-      by-cases (decLt 25000 t)
-      (λ l.
-      let no : 1 ≤ 0 =
-      nlin (n ∷ q ∷ t ∷ [])
-      ((v 2 ⊕ # 25000) ⊗ v 1 ⊙ # 25001 ⊑ v 2
-      ∷ # 1 ⊙ v 2 ⊗ v 2 ⊗ v 1 ⊑ # 4 ⊗ (v 0 ⊗ v 0)
-      ∷ # 4 ⊙ v 0 ⊗ v 0 ⊑ # 156250000 ⊗ v 1
-      ∷ # 1 ⊙ # 1 ⊑ v 1
-      ∷ [])
-      (# 1) (# 0) tt (omega arith) in
-      omega arith)
-      (λ l. omega arith)
+    pub product-fits : Fits w64 (t * q)
+    product-fits = omega (arith, mul-le-mul start-most (sizes .most))
 
-  pub twice-fits : (t : ℕ) → t * t * q ≤ 4 * (n * n) → Fits w64 (2 * t)
-  twice-fits t h = omega (arith, start-most t h)
+    pub square-fits : Fits w64 (t * q * t)
+    square-fits = omega (arith, limit-fits .fits)
 
-  pub odd-fits : (t : ℕ) → t * t * q ≤ 4 * (n * n) → Fits w64 (2 * t + 1)
-  odd-fits t h = omega (arith, start-most t h)
+    pub twice-fits : Fits w64 (2 * (t * q))
+    twice-fits = omega (arith, mul-le-mul start-most (sizes .most))
 
-  pub next-fits : (t : ℕ) → t * t * q ≤ 4 * (n * n) → Fits w64 ((2 * t + 1) * q)
-  next-fits t h =
-      let odd : 2 * t + 1 ≤ 50001 = omega (arith, start-most t h) in
-      omega (arith, mul-le-mul odd (sizes .most))
-
-  pub more-fits : (t : ℕ) → t * t * q ≤ 4 * (n * n) → Fits w64 (t + 1)
-  more-fits t h = omega (arith, start-most t h)
+    pub next-fits : Fits w64 (2 * (t * q) + q)
+    next-fits = omega (arith, mul-le-mul start-most (sizes .most))
 
   module _ (low shift : ℕ) (inverse : InverseOf q low shift) where
-    pub product-fits : Fits w64 (n * low)
-    product-fits = omega (arith, mul-le-mul (sizes .product-most) (inverse .most))
+    pub start-fits : Fits w64 (n * low)
+    start-fits = omega (arith, mul-le-mul (sizes .product-most) (inverse .most))
 
     -- the start is not above 2n over √q
     pub start-below : n * low / 2 ^ shift * (n * low / 2 ^ shift) * q ≤ 4 * (n * n)
@@ -145,6 +138,6 @@ module _ (n q : ℕ) (sizes : Sizes n q) where
         (inverse .above)
 
 -- one step up
-pub stepped : (n q t left : ℕ) → t * t * q + left ≡ 4 * (n * n) → (2 * t + 1) * q ≤ left → 4 * (n * n) < (t + 2) * (t + 2) * q
-    → DoubledOver n q (t + 1) (left - (2 * t + 1) * q)
+pub stepped : (n q t left : ℕ) → t * t * q + left ≡ 4 * (n * n) → 2 * (t * q) + q ≤ left → 4 * (n * n) < (t + 2) * (t + 2) * q
+    → DoubledOver n q (t + 1) (left - (2 * (t * q) + q))
 stepped n q t left is next above = record { whole = omega arith; last = omega arith }

@@ -15,17 +15,24 @@ pub record DoubledOver (n q floor left : ℕ) : Type 0 where
   pub whole : floor * floor * q + left ≡ 4 * (n * n)
   pub last : left < (2 * floor + 1) * q
 
--- the ranges of a component of the normal, the cutter's radius, and the normal's squared length
+-- the largest magnitude of a component of the normal, and the largest radius, in micrometres
+abbrev pub componentMost : ℕ
+componentMost = 100000
+
+abbrev pub radiusMost : ℕ
+radiusMost = 12500
+
+-- the ranges of a component, a radius, and the normal's squared length q
 pub record Ranges (component radius q : ℕ) : Type 0 where
-  pub component-most : component ≤ 100000
-  pub radius-most : radius ≤ 12500
+  pub component-most : component ≤ componentMost
+  pub radius-most : radius ≤ radiusMost
   pub squared : component * component ≤ q
   pub least : 0 < q
   pub most : q < 2 ^ 35
 
 -- those of n, a component times a radius, and of q
 pub record Sizes (n q : ℕ) : Type 0 where
-  pub product-most : n ≤ 1250000000
-  pub ratio : n * n ≤ 156250000 * q
+  pub product-most : n ≤ componentMost * radiusMost
+  pub ratio : n * n ≤ radiusMost * radiusMost * q
   pub least : 0 < q
   pub most : q < 2 ^ 35

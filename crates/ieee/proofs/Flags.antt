@@ -1,0 +1,82 @@
+-- The status of an accepted call: five flags, and none that stood is lost. Assumes nothing.
+use mathlib.Core.Path.{_≡_}
+use mathlib.Core.Bool.{Bool, true, false, cond, not, _&&_}
+use Prim.Native.Nat.{ℕ, _-_, _%_, _^_, _≤_, _<_, max}
+use native.Mathlib.Nat.{mod-lt}
+use native.Mathlib.Omega.{arith}
+use lib.Dec.{lit<, ltb, eqb}
+use lib.Bits.{or-lt}
+use Rattle.kinds.specs.Operation.{Op, reciprocal, root, inverseRoot, isReciprocal, opOf}
+use Rattle.kinds.specs.Rounding.{Mode, modeOf}
+use Rattle.kinds.specs.Flag.{invalid, overflow, underflow, inexact}
+use Rattle.numbers.proofs.Bits.{bit, bit-or, or-keeps}
+use Rattle.ieee.specs.Format.{Format, binary32, infinity, quietNaN, magnitudeOf}
+use Rattle.ieee.specs.Rounded.{flagsOf, isOverflow, isUnderflow, isInexact}
+use Rattle.ieee.specs.Answer.{Answer, answer, toNaN, toZero, toInfinity, toFinite, answerOf, signOf, unsigned}
+use Rattle.ieee.specs.Call.{binary32Refusal, binary32Status}
+use Rattle.ieee.proofs.Accepted.{accepted-status}
+
+-- a flag that may be raised is 0 or itself
+flag-most : (b : Bool) (x : ℕ) → cond b x 0 ≤ x
+flag-most true x = omega arith
+flag-most false x = omega arith
+
+-- an answer has no flag but the five
+record Few (a : Answer) : Type 0 where
+  small : a .flags < 32
+
+either-few : (test : Bool) (x y : Answer) → Few x → Few y → Few (cond test x y)
+either-few true x y p q = p
+either-few false x y p q = q
+
+-- true of each kind of answer,
+few-nan : (f : Format) (t : ℕ) → Few (toNaN f t)
+few-nan f t = record { small = omega (arith, flag-most (ltb (t % 2 ^ f .fractionBits) (2 ^ (f .fractionBits - 1))) invalid) }
+
+few-zero : (f : Format) (op : Op) (s : ℕ) → Few (toZero f op s)
+few-zero f reciprocal s = record { small = lit< tt }
+few-zero f root s = record { small = lit< tt }
+few-zero f inverseRoot s = record { small = lit< tt }
+
+few-infinity : (f : Format) (op : Op) (s : ℕ) → Few (toInfinity f op s)
+few-infinity f reciprocal s = record { small = lit< tt }
+few-infinity f root s = record { small = lit< tt }
+few-infinity f inverseRoot s = record { small = lit< tt }
+
+few-finite : (f : Format) (op : Op) (mode : Mode) (s t : ℕ) → Few (toFinite f op mode s t)
+unfolding flagsOf
+few-finite f op mode s t =
+    let x = magnitudeOf f t in
+    record {
+      small = omega (arith, flag-most (isOverflow f op mode (eqb s 1) x) overflow, flag-most (isUnderflow f op x) underflow, flag-most (isInexact f op x) inexact);
+    }
+
+-- so of every one
+few : (f : Format) (op : Op) (mode : Mode) (b : ℕ) → Few (answerOf f op mode b)
+unfolding answerOf
+few f op mode b =
+    let s = signOf f b in
+    let t = unsigned f b in
+    either-few (ltb (infinity f) t) _ _ (few-nan f t)
+    (either-few (eqb s 1 && not (eqb t 0) && not (isReciprocal op)) (answer (quietNaN f) invalid) _ (record { small = lit< tt })
+    (either-few (eqb t 0) _ _ (few-zero f op s)
+    (either-few (eqb t (infinity f)) _ _ (few-infinity f op s)
+    (few-finite f op mode s t))))
+
+module _ (operation rounding b status : ℕ) (accepted : binary32Refusal operation rounding ≡ 0) where
+  -- an accepted call returns one of the 32 statuses, its unknown bits zero,
+  pub status-small : binary32Status operation rounding b status < 32
+  status-small =
+      rw (accepted-status operation rounding b accepted status)
+      (or-lt 5 (status % 32) (answerOf binary32 (opOf operation) (modeOf rounding) b .flags) (mod-lt status (lit< tt))
+      (few binary32 (opOf operation) (modeOf rounding) b .small))
+
+  -- in which a flag stands exactly where it stood or the answer has it,
+  pub status-joins : (k : ℕ)
+      → bit k (binary32Status operation rounding b status)
+      ≡ max (bit k (status % 32)) (bit k (answerOf binary32 (opOf operation) (modeOf rounding) b .flags))
+  status-joins k = rw (accepted-status operation rounding b accepted status) (bit-or k (status % 32) _)
+
+  -- so that no flag that stood is lost
+  pub status-keeps : (k : ℕ) → bit k (status % 32) ≤ bit k (binary32Status operation rounding b status)
+  status-keeps k = rw (accepted-status operation rounding b accepted status) (or-keeps k (status % 32) _)
