@@ -157,15 +157,17 @@ list-put rounding m t l l₁ l₂ z e e₁ e₂ =
 
 -- ---- the answers
 
+pub refused-reply : {r : ℕ} → (r ≡ 0 → ⊥) → (rounding : ℕ) (m out : List ℕ) → r ≡ listRefusal rounding m (length out)
+    → record { refusal = r; length = 0 } ≡ listReply rounding m (length out)
+unfolding listAnswer
+refused-reply {r} h rounding m out e = cc (ne-eqb r 0 h)
+
+pub refused-kept : {r : ℕ} → (r ≡ 0 → ⊥) → (rounding : ℕ) (m out : List ℕ) → r ≡ listRefusal rounding m (length out)
+    → out ≡ bufferAfter rounding m out
+unfolding bufferAfter
+refused-kept {r} h rounding m out e = cc (ne-eqb r 0 h)
+
 module _ (rounding : ℕ) (m out : List ℕ) (r : ℕ) (e : r ≡ listRefusal rounding m (length out)) where
-  pub refused-reply : (r ≡ 0 → ⊥) → record { refusal = r; length = 0 } ≡ listReply rounding m (length out)
-  unfolding listAnswer
-  refused-reply h = cc (e, ne-eqb r 0 h)
-
-  pub refused-kept : (r ≡ 0 → ⊥) → out ≡ bufferAfter rounding m out
-  unfolding bufferAfter
-  refused-kept h = cc (e, ne-eqb r 0 h)
-
   pub given-none : r ≡ 0 → listRefusal rounding m (length out) ≡ 0
   given-none z = sym e ∙ z
 

@@ -1,6 +1,6 @@
 // The centre at an inner point, and its record.
 ghost use mathlib.Core.Path.{_≡_};
-ghost use Prim.Native.Nat.{_+_, _*_, _^_, _≤_, _<_};
+ghost use Prim.Native.Nat.{_+_, _*_, _≤_};
 ghost use lib.ListN.{length};
 ghost use Rattle.kinds.specs.Rounding.{modeOf};
 ghost use Rattle.words.specs.Splice.{splice};
@@ -14,6 +14,7 @@ use crate::heights::normal_at;
 use crate::trailer::Trailer;
 use kinds::Rounding;
 use offset::Inverse;
+use offset::inverse_of;
 use offset::rounded_over;
 use words::Signed;
 use words::lifted;
@@ -32,16 +33,6 @@ pub struct Words {
     pub x: u64,
     pub y: u64,
     pub z: u64,
-}
-
-fn inverse_of(q: u64) -> Inverse
-    requires { ⌜ (0 < q) × (q < 2 ^ 35) ⌝ }
-    ensures { λ r. ⌜ InverseOf q (r .low) (r .shift) ⌝ }
-{
-    Inverse {
-        low: 67108864,
-        shift: 27,
-    }
 }
 
 // component × radius over the normal's length, rounded.

@@ -1,27 +1,21 @@
-use Rattle.cutter.proofs.Rows.{next-right, next-line}
+-- `cutter::next_place` meets its contract: one law for each arm. Assumes nothing.
 use borrow.Author.Needs.{needs}
+use Rattle.cutter.proofs.Rows.{next-right, next-line}
 use Rattle.cutter.proofs.next_place.Statement.{statement}
 use Rattle.cutter.proofs.next_place.Tie as tie
-use Rattle.cutter.proofs.next_place.Reads as reads
-use Rattle.cutter.proofs.next_place.Lts as lts
 
--- src/lib.rt:84:8
 add-if1 : tie.Need-add-if1
 add-if1 c = search needs
 
--- src/lib.rt:86:21
 add-t6 : tie.Need-add-t6
 add-t6 c = search needs
 
--- src/lib.rt:92:18
 add-t7 : tie.Need-add-t7
 add-t7 c = search needs
 
--- src/lib.rt:80:1
 returns : tie.Need-returns
 returns c = search next-right
 
--- src/lib.rt:80:1
 returns-2 : tie.Need-returns-2
 returns-2 c = search next-line
 

@@ -1,19 +1,15 @@
+-- `cutter::put_points` meets its contract: after n turns the first n records are put, and the place is that of point n. Assumes nothing.
 use Prim.Native.Nat.{_-_}
-use mathlib.Core.Path.{_≡_}
-use native.Mathlib.Omega.{arith}
 use borrow.Author.Needs.{needs}
-use Rattle.kinds.specs.Rounding.{modeOf}
-use Rattle.cutter.specs.Reply.{placeOf}
-use Rattle.cutter.specs.List.{recordAt}
-use Rattle.words.proofs.Runs.{Written, written-none, written-all}
+use mathlib.Core.Path.{_≡_}
 use Rattle.cutter.proofs.Questions.{count-fits}
 use Rattle.cutter.proofs.Rows.{next-is, first-place, inner-at, column-below, row-below, points-more, point-room}
+use Rattle.cutter.specs.List.{recordAt}
+use Rattle.cutter.specs.Reply.{placeOf}
+use Rattle.kinds.specs.Rounding.{modeOf}
+use Rattle.words.proofs.Runs.{Written, written-none, written-all}
 use Rattle.cutter.proofs.put_points.Statement.{statement}
 use Rattle.cutter.proofs.put_points.Tie as tie
-use Rattle.cutter.proofs.put_points.Reads as reads
-use Rattle.cutter.proofs.put_points.Lts as lts
-use Rattle.cutter.proofs.next_place.Reads as next-place-reads
-use Rattle.cutter.proofs.points.put_point.Reads as put-point-reads
 
 abbrev Inv-loop : tie.InvT-loop
 Inv-loop rounding map out₀ trailer count place₀ n₀ out place n =
@@ -22,51 +18,39 @@ Inv-loop rounding map out₀ trailer count place₀ n₀ out place n =
 abbrev μ-loop : tie.MeasureT-loop
 μ-loop rounding map out₀ trailer count place₀ n₀ out place n = count - n
 
--- src/lib.rt:69:18
 sub-count : tie.Need-sub-count Inv-loop μ-loop
 sub-count c = search needs
 
--- src/lib.rt:69:40
 sub-count-2 : tie.Need-sub-count-2 Inv-loop μ-loop
 sub-count-2 c = search needs
 
--- src/lib.rt:69:17
 mul-count : tie.Need-mul-count Inv-loop μ-loop
 mul-count c = search count-fits
 
--- src/lib.rt:72:5
 loop-holds : tie.Need-loop-holds Inv-loop μ-loop
 loop-holds c = (search written-none, search first-place)
 
--- src/lib.rt:73:73
 mul-put-point : tie.Need-mul-put-point Inv-loop μ-loop
 mul-put-point c = search needs
 
--- src/lib.rt:73:9
 put-point-requires : tie.Need-put-point-requires Inv-loop μ-loop
 put-point-requires c κs = (search needs, (search inner-at, search point-room))
 
--- src/lib.rt:74:9
 next-place-requires : tie.Need-next-place-requires Inv-loop μ-loop
 next-place-requires c κs = (search column-below, search row-below)
 
--- src/lib.rt:75:9
 add-n : tie.Need-add-n Inv-loop μ-loop
 add-n c = search needs
 
--- src/lib.rt:72:5
 loop-less : tie.Need-loop-less Inv-loop μ-loop
 loop-less c = search needs
 
--- src/lib.rt:72:5
 loop-again : tie.Need-loop-again Inv-loop μ-loop
 loop-again c = (search points-more, search next-is)
 
--- src/lib.rt:64:1
 same-length : tie.Need-same-length Inv-loop μ-loop
 same-length c = search needs
 
--- src/lib.rt:64:1
 returns : tie.Need-returns Inv-loop μ-loop
 returns c = search written-all
 

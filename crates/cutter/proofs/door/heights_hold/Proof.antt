@@ -1,8 +1,9 @@
+-- `cutter::door::heights_hold` meets its contract: the answer so far is that of the heights passed. Assumes nothing.
 use Prim.Native.Nat.{_≤_, _-_}
-use mathlib.Core.Path.{_≡_}
 use borrow.Author.Needs.{needs}
-use Rattle.cutter.specs.Call.{heightsWithin}
+use mathlib.Core.Path.{_≡_}
 use Rattle.cutter.proofs.Questions.{hold-none, hold-more, hold-all}
+use Rattle.cutter.specs.Call.{heightsWithin}
 use Rattle.cutter.proofs.door.heights_hold.Statement.{statement}
 use Rattle.cutter.proofs.door.heights_hold.Tie as tie
 

