@@ -1,0 +1,5 @@
+pub mod Map
+pub mod Centre
+pub mod List
+pub mod Call
+pub mod Agree

@@ -1,0 +1,4 @@
+pub mod Word
+pub mod Signed
+pub mod Splice
+pub mod Joined
