@@ -1,3 +1,5 @@
 pub mod Greatest
+pub mod Powers
 pub mod Ring
+pub mod Squares
 pub mod Table
