@@ -1,0 +1,32 @@
+-- `raw::inverse_root` meets its contract. Assumes nothing.
+use Rattle.raw.proofs.Bounds.{multiplier-small}
+use native.Mathlib.Omega.{arith}
+use Rattle.raw.proofs.Parts.{raw-is}
+use borrow.Author.Needs.{needs}
+use Rattle.raw.proofs.inverse_root.Statement.{statement}
+use Rattle.raw.proofs.inverse_root.Tie as tie
+
+reduce-requires : tie.Need-reduce-requires
+reduce-requires c κs = search needs
+
+inverse-root-series-requires : tie.Need-inverse-root-series-requires
+inverse-root-series-requires c κs = search needs
+
+inverse-root-requires : tie.Need-inverse-root-requires
+inverse-root-requires c κs = search needs
+
+scaled-requires : tie.Need-scaled-requires
+scaled-requires c κs = (search multiplier-small, search needs)
+
+returns : tie.Need-returns
+returns c = search raw-is
+
+pub inverse-root-spec : {M : Type 1} → statement M
+inverse-root-spec =
+    tie.close
+    (tie.spec
+    reduce-requires
+    inverse-root-series-requires
+    inverse-root-requires
+    scaled-requires
+    returns)

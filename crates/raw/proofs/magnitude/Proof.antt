@@ -1,0 +1,20 @@
+-- `raw::magnitude` meets its contract: of the two differences one is 0. Assumes nothing.
+use native.Mathlib.Omega.{arith}
+use Rattle.significand.specs.Steps.{reducedOf}
+use borrow.Author.Needs.{needs}
+use Rattle.raw.proofs.magnitude.Statement.{statement}
+use Rattle.raw.proofs.magnitude.Tie as tie
+
+sub-result : tie.Need-sub-result
+sub-result c = search needs
+
+returns : tie.Need-returns
+unfolding reducedOf
+returns c = omega arith
+
+returns-2 : tie.Need-returns-2
+unfolding reducedOf
+returns-2 c = omega arith
+
+pub magnitude-spec : {M : Type 1} → statement M
+magnitude-spec = tie.close (tie.spec sub-result returns returns-2)

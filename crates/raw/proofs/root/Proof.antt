@@ -1,0 +1,26 @@
+-- `raw::root` meets its contract. Assumes nothing.
+use Rattle.raw.proofs.Bounds.{multiplier-small}
+use native.Mathlib.Omega.{arith}
+use Rattle.raw.proofs.Parts.{raw-is}
+use borrow.Author.Needs.{needs}
+use Rattle.raw.proofs.root.Statement.{statement}
+use Rattle.raw.proofs.root.Tie as tie
+
+reduce-requires : tie.Need-reduce-requires
+reduce-requires c κs = search needs
+
+root-series-requires : tie.Need-root-series-requires
+root-series-requires c κs = search needs
+
+root-requires : tie.Need-root-requires
+root-requires c κs = search needs
+
+scaled-requires : tie.Need-scaled-requires
+scaled-requires c κs = (search multiplier-small, search needs)
+
+returns : tie.Need-returns
+returns c = search raw-is
+
+pub root-spec : {M : Type 1} → statement M
+root-spec =
+    tie.close (tie.spec reduce-requires root-series-requires root-requires scaled-requires returns)
