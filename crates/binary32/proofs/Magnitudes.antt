@@ -1,9 +1,11 @@
 -- A magnitude as a significand and a power of two: the shifts of a subnormal operand, and a normal one. Assumes nothing.
-use mathlib.Core.Path.{_≡_, refl, sym, ap, _∙_}
+use mathlib.Core.Path.{_≡_, refl, sym, ap, subst, _∙_}
 use Prim.Native.Nat.{ℕ, zero, suc, _+_, _*_, _-_, _/_, _%_, _^_, _≤_, _<_}
 use native.Mathlib.Nat.{pow-succ', pow-zero}
 use native.Mathlib.Omega.{arith}
+use lib.Pow.{pow-add}
 use Rattle.ieee.specs.Format.{binary32, magnitudeOf}
+use Rattle.ieee.proofs.Neighbours.{magnitude-fields}
 use Rattle.binary32.specs.Operand.{patternOf, Scaling}
 use Rattle.binary32.specs.declared.operand.Scaled.{Scaled}
 
@@ -38,3 +40,20 @@ shifted-more x y (suc j) p s h =
 
 pub shifted-all : (x y j : ℕ) → Shifted x y j → 8388608 ≤ y → Scaling x (record { significand = y; exponent = j })
 shifted-all x y j s h = record { is = s .is; low = h; high = s .high; small = omega (arith, s .small) }
+
+-- the operand is subnormal where its exponent is 0, and its fraction is its magnitude
+pub subnormal-scaled : (e x : ℕ) (r : Scaled) → e ≡ 0 → x < 8388608 → Scaling x r → Scaling (magnitudeOf binary32 (patternOf e x)) r
+subnormal-scaled e x r z h s = rw (z, magnitude-fields binary32 0 x h) s
+
+-- otherwise the significand has a leading one
+pub normal-scaled : (e x : ℕ) → (e ≡ 0 → ⊥) → e < 255 → x < 8388608
+    → Scaling (magnitudeOf binary32 (patternOf e x)) (record { significand = 8388608 + x; exponent = e + 22 })
+normal-scaled zero x z b h = absurd (z refl)
+normal-scaled (suc e) x z b h =
+    let p : 2 ^ (suc e + 22) ≡ 2 ^ e * 2 ^ 23 = ap (λ (n : ℕ). 2 ^ n) (omega arith) ∙ pow-add 2 e 23 in
+    record {
+      is = rw (magnitude-fields binary32 (suc e) x h, p) (omega arith);
+      low = omega arith;
+      high = omega arith;
+      small = omega arith;
+    }
