@@ -1,6 +1,8 @@
 // The operations, the roundings and the flags, each under a name that belongs to its kind, and the choice between two neighbours.
 ghost use mathlib.Core.Path.{_≡_};
-ghost use Rattle.kinds.specs.Rounding.{modeOf, placeOf, away};
+ghost use Rattle.kinds.specs.Operation.{Op, opOf, reciprocal, root, inverseRoot};
+ghost use Rattle.kinds.specs.Rounding.{Mode, modeOf, nearest, up, down, towardZero, placeOf, away};
+ghost use Rattle.kinds.specs.Flag.{invalid, divisionByZero, overflow, underflow, inexact};
 
 pub struct Operation(pub u8);
 
@@ -37,6 +39,20 @@ impl Flag {
 
     pub const INEXACT: Flag = Flag(16);
 }
+
+// Each name stands for the operation, the rounding and the flag that it says.
+pub fn operations_named()
+    ensures { λ _. do ⌜ (opOf (← ⟦Operation::RECIPROCAL.0⟧ .entry) ≡ reciprocal) × (opOf (← ⟦Operation::ROOT.0⟧ .entry) ≡ root) × (opOf (← ⟦Operation::INVERSE_ROOT.0⟧ .entry) ≡ inverseRoot) ⌝ }
+{}
+
+pub fn roundings_named()
+    ensures { λ _. do ⌜ (modeOf (← ⟦Rounding::NEAREST.0⟧ .entry) ≡ nearest) × (modeOf (← ⟦Rounding::UP.0⟧ .entry) ≡ up) × (modeOf (← ⟦Rounding::DOWN.0⟧ .entry) ≡ down) × (modeOf (← ⟦Rounding::TOWARD_ZERO.0⟧ .entry) ≡ towardZero) ⌝ }
+{}
+
+pub fn flags_named()
+    ensures { λ _. do ⌜ ((← ⟦Flag::INVALID.0⟧ .entry) ≡ invalid) × ((← ⟦Flag::DIVISION_BY_ZERO.0⟧ .entry) ≡ divisionByZero) ⌝ }
+    ensures { λ _. do ⌜ ((← ⟦Flag::OVERFLOW.0⟧ .entry) ≡ overflow) × ((← ⟦Flag::UNDERFLOW.0⟧ .entry) ≡ underflow) × ((← ⟦Flag::INEXACT.0⟧ .entry) ≡ inexact) ⌝ }
+{}
 
 // Whether a magnitude goes to the neighbour farther from zero: `half` says that the midpoint is reached, `more` that something
 // lies above what was reached, `odd` that the lower neighbour is odd.

@@ -1,2 +1,3 @@
 pub mod Raw
 pub mod Packed
+pub mod Status

@@ -8,7 +8,39 @@ ghost use Rattle.kinds.specs.Operation.{opOf};
 ghost use Rattle.significand.specs.Steps.{rawOf};
 ghost use Rattle.significand.specs.Call.{rawRefusal};
 ghost use Rattle.plate.specs.Raw.{rawCall};
+ghost use Rattle.plate.specs.Status.{raised, cleared};
+pub use kinds::Flag;
 pub use kinds::Operation;
+
+// The flags that were raised since the status was last cleared, one bit each.
+pub struct Status {
+    pub flags: u8,
+}
+
+impl Status {
+    // A status with no flag.
+    pub fn new() -> Status
+        ensures { λ r. ⌜ r ≡ cleared ⌝ }
+    {
+        Status { flags: 0 }
+    }
+
+    // The status with a flag raised; the others stay as they are.
+    pub fn raise(self, flag: Flag) -> Status
+        ensures { λ r. ⌜ r ≡ raised self (flag .0) ⌝ }
+    {
+        Status {
+            flags: self.flags | flag.0,
+        }
+    }
+
+    // The status with no flag.
+    pub fn clear(self) -> Status
+        ensures { λ r. ⌜ r ≡ cleared ⌝ }
+    {
+        Status { flags: 0 }
+    }
+}
 
 // What the raw call gives back: refusal 0 with the answer g, which stands for g / 2^28; or the number of a question, with answer 0.
 pub struct RawReply {

@@ -1,0 +1,115 @@
+//! The binary32 call beside the machine's division and root and libmpfr.
+
+use std::hint::black_box;
+
+use plate_tests::chance::Chance;
+use plate_tests::machine;
+
+use crate::timing::{best, line, ROUNDS};
+
+extern "C" {
+    fn plate_binary32(operation: u8, rounding: u8, status: u8, bits: u32) -> u64;
+}
+
+const COUNT: usize = 4096;
+const ROUNDINGS: [&str; 4] = ["nearest", "up", "down", "toward zero"];
+const OPERATIONS: [&str; 4] = ["", "reciprocal", "root", "inverse root"];
+
+/// One instruction, or two for the inverse root, in the rounding that stands.
+fn instruction(operation: u8, x: f32) -> f32 {
+    match operation {
+        1 => 1.0 / x,
+        2 => x.sqrt(),
+        _ => 1.0 / x.sqrt(),
+    }
+}
+
+fn unit_time(operation: u8, rounding: u8, operands: &[u32]) -> f64 {
+    best(operands.len(), || {
+        for &bits in operands {
+            black_box(unsafe { plate_binary32(black_box(operation), black_box(rounding), 0, bits) });
+        }
+    })
+}
+
+pub fn run() {
+    let mut chance = Chance(12);
+    // Positive normal operands with normal results in all three operations.
+    let normal: Vec<u32> =
+        (0..COUNT).map(|_| chance.range(0x0080_0000, 0x7E80_0000) as u32).collect();
+    let any: Vec<u32> = (0..COUNT).map(|_| chance.next() as u32).collect();
+    compare(&normal);
+
+    println!(
+        "binary32: ns a call, {COUNT} random normal operands, best of {ROUNDS} rounds; ratio is unit / other\n\
+         \x20 instruction: divss or sqrtss, nearest, flags not read; for the inverse root both,\n\
+         \x20   rounded twice, which is not the same answer\n\
+         \x20 with flags: the same with MXCSR set before and read after, as the call does"
+    );
+    #[cfg(feature = "mpfr")]
+    println!(
+        "\x20 mpfr: libmpfr at 24 bits, exponents unbounded, the operation alone;\n\
+         \x20   mpfr f32: with the ways from and to f32"
+    );
+    for operation in 1..=3 {
+        for rounding in 0..4 {
+            let name = format!("{}, {}", OPERATIONS[operation as usize], ROUNDINGS[rounding as usize]);
+            let unit = unit_time(operation, rounding, &normal);
+            #[allow(unused_mut)]
+            let mut others = Vec::new();
+            if rounding == 0 {
+                others.push(("instruction", best(COUNT, || {
+                    for &bits in &normal {
+                        black_box(instruction(operation, black_box(f32::from_bits(bits))));
+                    }
+                })));
+            }
+            if operation < 3 {
+                others.push(("with flags", best(COUNT, || {
+                    for &bits in &normal {
+                        black_box(match operation {
+                            1 => machine::reciprocal(rounding, bits),
+                            _ => machine::root(rounding, bits),
+                        });
+                    }
+                })));
+            }
+            #[cfg(feature = "mpfr")]
+            {
+                others.push(("mpfr", crate::mpfr::time_alone(operation, rounding, &normal)));
+                others.push(("mpfr f32", crate::mpfr::time_whole(operation, rounding, &normal)));
+            }
+            line(&name, unit, &others);
+        }
+    }
+    for operation in 1..=3 {
+        let name = format!("{}, any bits", OPERATIONS[operation as usize]);
+        line(&name, unit_time(operation, 0, &any), &[]);
+    }
+    println!();
+}
+
+/// The answers that are timed must be the same everywhere.
+fn compare(operands: &[u32]) {
+    for &bits in operands {
+        for rounding in 0..4 {
+            for operation in 1..=3 {
+                let given = unsafe { plate_binary32(operation, rounding, 0, bits) };
+                let about = || format!("{operation} {rounding} {bits:08X}");
+                match operation {
+                    1 => {
+                        let (answer, flags) = machine::reciprocal(rounding, bits);
+                        assert_eq!(given, (flags as u64) << 32 | answer as u64, "{}", about());
+                    }
+                    2 => {
+                        let (answer, flags) = machine::root(rounding, bits);
+                        assert_eq!(given, (flags as u64) << 32 | answer as u64, "{}", about());
+                    }
+                    _ => {}
+                }
+                #[cfg(feature = "mpfr")]
+                assert_eq!(given as u32, crate::mpfr::answer(operation, rounding, bits), "{}", about());
+            }
+        }
+    }
+}

@@ -1,0 +1,44 @@
+//! Times the static library beside other programs for the same answers:
+//!
+//!     cargo run --release                        all three parts
+//!     cargo run --release -- list                one of raw, binary32, list
+//!     cargo run --release --features mpfr        libmpfr in the binary32 part
+//!
+//! All times are of one core, nanoseconds a call, the best of many rounds. Every
+//! answer goes through black_box, so no call is left out. Before it is timed, a
+//! program for the same answers is compared with the library on what is timed.
+
+#[cfg(feature = "binary32")]
+mod binary32;
+#[cfg(feature = "list")]
+mod list;
+#[cfg(feature = "mpfr")]
+mod mpfr;
+#[cfg(feature = "raw")]
+mod raw;
+mod timing;
+
+fn main() {
+    let parts: Vec<String> = std::env::args().skip(1).collect();
+    if let Some(unknown) = parts.iter().find(|part| !["raw", "binary32", "list"].contains(&part.as_str())) {
+        eprintln!("unknown part {unknown}: raw, binary32 or list");
+        std::process::exit(2);
+    }
+    let wanted = |name: &str| parts.is_empty() || parts.iter().any(|part| part == name);
+    if cfg!(feature = "self") {
+        println!("WITHOUT THE LIBRARY: \"unit\" is the Rust reference of tests/rust.\n");
+    }
+    #[cfg(feature = "raw")]
+    if wanted("raw") {
+        raw::run();
+    }
+    #[cfg(feature = "binary32")]
+    if wanted("binary32") {
+        binary32::run();
+    }
+    #[cfg(feature = "list")]
+    if wanted("list") {
+        list::run();
+    }
+    let _ = wanted;
+}

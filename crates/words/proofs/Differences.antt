@@ -1,0 +1,223 @@
+-- A signed number as the difference of two naturals: an equation of such differences is one of naturals. Assumes nothing.
+use mathlib.Core.Path.{_≡_, refl, sym, ap, ap₂, _∙_}
+use mathlib.Core.Bool.{Bool, true, false, not}
+use Prim.Native.Nat.{ℕ, zero, suc, _+_, _-_, _*_, _%_, _≤_, _<_}
+use native.Mathlib.Nat.{lt-of-not-le}
+use native.Mathlib.Decide.{decLe}
+use native.Mathlib.Omega.{arith}
+use borrow.Author.Tests.{lt-ltb, le-ltb, le-leb, lt-leb}
+use lib.Dec.{ltb, leb}
+use lib.IntN.{ℤ, pos, negsuc, negℤ, natAbs, subℕ, _+ℤ_, _-ℤ_, +ℤ-idl}
+use Rattle.words.specs.Signed.{signed, wordOf, withSign, isNegative}
+use Rattle.words.specs.Parts.{partsOf}
+
+-- one order or the other
+pub either {ℓ} : {X : Type ℓ} (a b : ℕ) → (b ≤ a → X) → (a < b → X) → X
+either a b f g = elim (decLe b a) [ yes h ↦ f h | no h ↦ g (lt-of-not-le h) ]
+
+pub diff-le : (a b : ℕ) → b ≤ a → subℕ a b ≡ pos (a - b)
+diff-le a b h = simp (le-ltb a b h)
+
+pub diff-lt : (a b : ℕ) → a < b → subℕ a b ≡ negsuc (b - suc a)
+diff-lt a b h = simp (lt-ltb a b h)
+
+pub diff-eq : (a b c d : ℕ) → a + d ≡ c + b → subℕ a b ≡ subℕ c d
+diff-eq a b c d e =
+    either a b
+    (λ h. diff-le a b h ∙ ap pos (omega arith) ∙ sym (diff-le c d (omega arith)))
+    (λ h. diff-lt a b h ∙ ap negsuc (omega arith) ∙ sym (diff-lt c d (omega arith)))
+
+pub diff-pos : (a : ℕ) → pos a ≡ subℕ a 0
+diff-pos a = ap pos (omega arith) ∙ sym (diff-le a 0 (omega arith))
+
+pub neg-pos : (n : ℕ) → negℤ (pos n) ≡ subℕ 0 n
+neg-pos zero = refl
+neg-pos (suc n) = ap negsuc (omega arith) ∙ sym (diff-lt 0 (suc n) (omega arith))
+
+pub diff-neg : (a b : ℕ) → negℤ (subℕ a b) ≡ subℕ b a
+diff-neg a b =
+    either a b
+    (λ h. ap negℤ (diff-le a b h) ∙ neg-pos (a - b) ∙ diff-eq 0 (a - b) b a (omega arith))
+    (λ h. ap negℤ (diff-lt a b h) ∙ diff-pos (suc (b - suc a)) ∙ diff-eq (suc (b - suc a)) 0 b a (omega arith))
+
+-- a sum of two differences, by the signs of both
+pub diff-add : (a b c d : ℕ) → subℕ a b +ℤ subℕ c d ≡ subℕ (a + c) (b + d)
+diff-add a b c d =
+    either a b
+    (λ h. either c d
+    (λ k.
+    ap₂ _+ℤ_ (diff-le a b h) (diff-le c d k)
+    ∙ diff-pos (a - b + (c - d))
+    ∙ diff-eq (a - b + (c - d)) 0 (a + c) (b + d) (omega arith))
+    (λ k. ap₂ _+ℤ_ (diff-le a b h) (diff-lt c d k) ∙ diff-eq (a - b) (suc (d - suc c)) (a + c) (b + d) (omega arith)))
+    (λ h. either c d
+    (λ k. ap₂ _+ℤ_ (diff-lt a b h) (diff-le c d k) ∙ diff-eq (c - d) (suc (b - suc a)) (a + c) (b + d) (omega arith))
+    (λ k.
+    ap₂ _+ℤ_ (diff-lt a b h) (diff-lt c d k)
+    ∙ ap negsuc (omega arith)
+    ∙ sym (diff-lt (a + c) (b + d) (omega arith))))
+
+pub diff-sub : (a b c d : ℕ) → subℕ a b -ℤ subℕ c d ≡ subℕ (a + d) (b + c)
+diff-sub a b c d = ap (λ (z : ℤ). subℕ a b +ℤ z) (diff-neg c d) ∙ diff-add a b d c
+
+pub diff-abs : (a b : ℕ) → natAbs (subℕ a b) ≡ (a - b) + (b - a)
+diff-abs a b =
+    either a b
+    (λ h. ap natAbs (diff-le a b h) ∙ omega arith)
+    (λ h. ap natAbs (diff-lt a b h) ∙ omega arith)
+
+-- ---- sign and magnitude
+
+-- what a comparison finds
+pub parts-le : (a b : ℕ) → b ≤ a → record { negative = false; magnitude = a - b } ≡ partsOf (subℕ a b)
+unfolding partsOf
+parts-le a b h = sym (ap partsOf (diff-le a b h))
+
+pub parts-lt : (a b : ℕ) → a < b → record { negative = true; magnitude = b - a } ≡ partsOf (subℕ a b)
+unfolding partsOf
+parts-lt a b h =
+    let e : suc (b - suc a) ≡ b - a = omega arith in
+    sym (ap partsOf (diff-lt a b h) ∙ cc)
+
+-- taken apart and put together again
+pub parts-back : (z : ℤ) → withSign (isNegative z) (natAbs z) ≡ z
+unfolding withSign
+parts-back (pos n) = refl
+parts-back (negsuc n) = refl
+
+pub abs-sign : (t : Bool) (g : ℕ) → natAbs (withSign t g) ≡ g
+unfolding withSign
+abs-sign false g = refl
+abs-sign true zero = refl
+abs-sign true (suc g) = refl
+
+pub abs-neg : (z : ℤ) → natAbs (negℤ z) ≡ natAbs z
+abs-neg (pos zero) = refl
+abs-neg (pos (suc n)) = refl
+abs-neg (negsuc n) = refl
+
+-- ---- words
+
+-- the word of a difference
+pub diff-word : (a b : ℕ) → a < 4294967296 → b ≤ a + 4294967296 → wordOf (subℕ a b) ≡ (a + 4294967296 - b) % 4294967296
+unfolding wordOf
+diff-word a b ha hb =
+    either a b
+    (λ h. ap wordOf (diff-le a b h) ∙ omega arith)
+    (λ h. ap wordOf (diff-lt a b h) ∙ omega arith)
+
+-- a word, read as a signed number and written again
+pub word-signed : (u : ℕ) → u < 4294967296 → wordOf (signed u) ≡ u
+unfolding signed wordOf
+word-signed u hu =
+    either u 2147483648
+    (λ k. simp (le-ltb u 2147483648 k) (diff-word u 4294967296 hu (omega arith) ∙ omega arith))
+    (λ k. simp (lt-ltb u 2147483648 k))
+
+-- a signed number, written as a word and read again
+pub word-small : (z : ℤ) → natAbs z < 2147483648 → wordOf z < 4294967296
+unfolding wordOf
+word-small (pos n) h = omega arith
+word-small (negsuc n) h = omega arith
+
+pub signed-word : (z : ℤ) → natAbs z < 2147483648 → signed (wordOf z) ≡ z
+unfolding signed wordOf
+signed-word (pos n) h = simp (lt-ltb n 2147483648 h)
+signed-word (negsuc n) h =
+    let k : 2147483648 ≤ 4294967296 - suc n = omega arith in
+    let l : 4294967296 - suc n < 4294967296 = omega arith in
+    simp (le-ltb (4294967296 - suc n) 2147483648 k)
+    (diff-lt (4294967296 - suc n) 4294967296 l ∙ ap negsuc (omega arith))
+
+-- the words of a sum with a signed number
+pub moved-less : (t : Bool) (n m : ℕ) → n < 2147483648 → m < 2147483648 → t ≡ true
+    → (n + 4294967296 - m) % 4294967296 ≡ wordOf (pos n +ℤ withSign t m)
+unfolding withSign
+moved-less t n m hn hm e =
+    sym (diff-word n m (omega arith) (omega arith))
+    ∙ ap wordOf (diff-eq n m (n + 0) (0 + m) (omega arith) ∙ sym (diff-add n 0 0 m) ∙ ap₂ _+ℤ_ (sym (diff-pos n)) (sym (neg-pos m)))
+    ∙ ap (λ (t : Bool). wordOf (pos n +ℤ withSign t m)) (sym e)
+
+pub moved-more : (t : Bool) (n m : ℕ) → t ≡ false → n + m ≡ wordOf (pos n +ℤ withSign t m)
+unfolding withSign wordOf
+moved-more t n m e = ap (λ (t : Bool). wordOf (pos n +ℤ withSign t m)) (sym e)
+
+-- the words of a word's number with a difference added
+lifted-by : (u a b : ℕ) → u < 4294967296 → a < 2147483648 → b < 2147483648
+    → wordOf (signed u +ℤ subℕ a b) ≡ (u + a + 4294967296 - b) % 4294967296
+unfolding signed wordOf
+lifted-by u a b hu ha hb =
+    either u 2147483648
+    (λ k.
+    let e : signed u ≡ subℕ u 4294967296 = simp (le-ltb u 2147483648 k) in
+    ap (λ (z : ℤ). wordOf (z +ℤ subℕ a b)) e
+    ∙ ap wordOf (diff-add u 4294967296 a b)
+    ∙ either (u + a) (4294967296 + b)
+    (λ j. ap wordOf (diff-le (u + a) (4294967296 + b) j) ∙ omega arith)
+    (λ j. ap wordOf (diff-lt (u + a) (4294967296 + b) j) ∙ omega arith))
+    (λ k.
+    let e : signed u ≡ subℕ u 0 = simp (lt-ltb u 2147483648 k) (diff-pos u) in
+    ap (λ (z : ℤ). wordOf (z +ℤ subℕ a b)) e
+    ∙ ap wordOf (diff-add u 0 a b)
+    ∙ diff-word (u + a) (0 + b) (omega arith) (omega arith)
+    ∙ omega arith)
+
+pub lifted-less : (t : Bool) (u m : ℕ) → u < 4294967296 → m < 2147483648 → t ≡ true
+    → (u + 4294967296 - m) % 4294967296 ≡ wordOf (signed u +ℤ withSign t m)
+unfolding withSign
+lifted-less t u m hu hm e =
+    let f : (u + 4294967296 - m) % 4294967296 ≡ (u + 0 + 4294967296 - m) % 4294967296 = omega arith in
+    f
+    ∙ sym (lifted-by u 0 m hu (omega arith) hm)
+    ∙ ap (λ (z : ℤ). wordOf (signed u +ℤ z)) (sym (neg-pos m))
+    ∙ ap (λ (t : Bool). wordOf (signed u +ℤ withSign t m)) (sym e)
+
+pub lifted-more : (t : Bool) (u m : ℕ) → u < 4294967296 → m < 2147483648 → t ≡ false
+    → (u + m) % 4294967296 ≡ wordOf (signed u +ℤ withSign t m)
+unfolding withSign
+lifted-more t u m hu hm e =
+    let f : (u + m) % 4294967296 ≡ (u + m + 4294967296 - 0) % 4294967296 = omega arith in
+    f
+    ∙ sym (lifted-by u m 0 hu hm (omega arith))
+    ∙ ap (λ (z : ℤ). wordOf (signed u +ℤ z)) (sym (diff-pos m))
+    ∙ ap (λ (t : Bool). wordOf (signed u +ℤ withSign t m)) (sym e)
+
+-- ---- words of numbers near 0, raised by 50,000
+
+-- two tests that ask the same
+pub leb-same : (a b c d : ℕ) → (a ≤ b → c ≤ d) → (c ≤ d → a ≤ b) → leb a b ≡ leb c d
+leb-same a b c d f g =
+    either b a
+    (λ h. le-leb a b h ∙ sym (le-leb c d (f h)))
+    (λ h. lt-leb a b h ∙ sym (lt-leb c d (either c (suc d) (λ k. k) (λ k. absurd (clash h (g (omega arith)))))))
+  where
+    clash : {m n : ℕ} → n < m → m ≤ n → ⊥
+    clash h k = omega arith
+
+abs-signed : (u : ℕ) → u < 4294967296
+    → (u < 2147483648 → natAbs (signed u) ≡ u) × (2147483648 ≤ u → natAbs (signed u) ≡ 4294967296 - u)
+unfolding signed
+abs-signed u hu =
+    (λ k. simp (lt-ltb u 2147483648 k), λ k. simp (le-ltb u 2147483648 k) (diff-abs u 4294967296 ∙ omega arith))
+
+pub within-raised : (u : ℕ) → u < 4294967296 → natAbs (signed u) ≤ 50000 → (u + 50000) % 4294967296 ≤ 100000
+within-raised u hu h =
+    either u 2147483648 (λ k. omega (arith, abs-signed u hu .1 k)) (λ k. omega (arith, abs-signed u hu .0 k))
+
+pub raised-within : (u : ℕ) → u < 4294967296 → (u + 50000) % 4294967296 ≤ 100000 → natAbs (signed u) ≤ 50000
+raised-within u hu h =
+    either u 2147483648 (λ k. omega (arith, abs-signed u hu .1 k)) (λ k. omega (arith, abs-signed u hu .0 k))
+
+-- a number is within 50,000 of 0 where its raised word is at most 100,000
+pub signed-within : (u : ℕ) → u < 4294967296 → leb (natAbs (signed u)) 50000 ≡ leb ((u + 50000) % 4294967296) 100000
+signed-within u hu =
+    leb-same (natAbs (signed u)) 50000 ((u + 50000) % 4294967296) 100000 (within-raised u hu) (raised-within u hu)
+
+-- it is then the raised word less 50,000
+pub signed-raised : (u : ℕ) → u < 4294967296 → (u + 50000) % 4294967296 ≤ 100000
+    → signed u ≡ subℕ ((u + 50000) % 4294967296) 50000
+unfolding signed
+signed-raised u hu h =
+    either u 2147483648
+    (λ k. simp (le-ltb u 2147483648 k) (diff-eq u 4294967296 ((u + 50000) % 4294967296) 50000 (omega arith)))
+    (λ k. simp (lt-ltb u 2147483648 k) (diff-pos u ∙ diff-eq u 0 ((u + 50000) % 4294967296) 50000 (omega arith)))

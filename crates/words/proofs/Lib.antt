@@ -1,0 +1,3 @@
+pub mod Splicing
+pub mod Runs
+pub mod Differences

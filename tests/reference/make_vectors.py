@@ -1,0 +1,433 @@
+"""Writes the vector files from plate.py.
+
+    python3 tests/reference/make_vectors.py           rewrites them all
+    python3 tests/reference/make_vectors.py --check   exits 1 if one differs
+
+Each folder below crates/ gets a file stdin, what its program is given, and a
+file stdout, what it must print. The files are the same at every run.
+
+raw_vectors       stdin  operation significand parity
+                  stdout refusal answer
+binary32_vectors  stdin  operation rounding bits status
+                  stdout refusal bits status
+                  bits are 8 upper-case hexadecimal digits
+list_vectors      stdin  binary frames: u32 length of the map, u32 length of the
+                  buffer, both little-endian, then the map
+                  stdout refusal length digest, a line for each frame and each
+                  of the roundings 0, 1, 2, 3 and 4. Byte j of the buffer holds
+                  (7j + 3) mod 256 before each call; digest() is taken over the
+                  whole buffer after it
+platelist         document 01's example
+"""
+
+import itertools
+import random
+import struct
+import sys
+from fractions import Fraction
+from pathlib import Path
+
+sys.dont_write_bytecode = True
+
+import plate
+
+HERE = Path(__file__).resolve().parent
+CRATES = HERE.parent.parent / "crates"
+
+SMALLEST, LARGEST = 8388608, 16777215           # significands
+
+
+# --------------------------------------------------------------------- raw
+
+def raw_calls():
+    chance = random.Random("raw")
+    accepted = [(1, 0), (2, 0), (2, 1), (3, 0), (3, 1)]
+    # The table's rows.
+    yield from [(1, 8388608, 0), (1, 12582912, 0), (1, 16777215, 0),
+                (2, 8388608, 1), (3, 8388608, 1), (1, 8388607, 0), (1, 16777216, 0)]
+    # Both edges of each interval of i.
+    for operation, parity in accepted:
+        for i in range(128, 256):
+            yield operation, i * 65536, parity
+            yield operation, i * 65536 + 65535, parity
+    # In each interval the last y with d below 0 and the first with d not below.
+    for i in range(128, 256):
+        first = -(-2**31 // (32768 // i))
+        for y in (first - 1, first):
+            if y // 65536 == i:
+                operation, parity = chance.choice(accepted)
+                yield operation, y, parity
+    # Refusals, alone, by two and by three.
+    operations = [0, 1, 2, 3, 4, 5, 127, 128, 129, 255]
+    significands = [0, 1, 8388607, 8388608, 16777215, 16777216, 2**24 + 2**23,
+                    2**31, 2**31 + 2**23, 2**32 - 1]
+    parities = [0, 1, 2, 3, 128, 129, 254, 255]
+    yield from itertools.product(operations, significands, parities)
+    # Random significands.
+    for operation, parity in accepted:
+        for _ in range(200):
+            yield operation, chance.randint(SMALLEST, LARGEST), parity
+    for _ in range(100):
+        yield chance.randrange(256), chance.randrange(2**32), chance.randrange(256)
+
+
+def raw_files():
+    given, expected = [], []
+    for call in raw_calls():
+        given.append("%d %d %d\n" % call)
+        expected.append("%d %d\n" % plate.raw(*call))
+    return "".join(given).encode(), "".join(expected).encode()
+
+
+# ---------------------------------------------------------------- binary32
+
+CLASSES = [
+    0x00000000,                                             # zero
+    0x00000001, 0x00000002, 0x00000003, 0x000000FF,         # subnormals
+    0x001FFFFF, 0x00200000, 0x00200001,                     # where 1/x overflows
+    0x003FFFFF, 0x00400000, 0x00400001, 0x007FFFFE, 0x007FFFFF,
+    0x00800000, 0x00800001, 0x00FFFFFF, 0x01000000,         # smallest normals
+    0x34000000, 0x3EAAAAAB, 0x3F7FFFFE, 0x3F7FFFFF,
+    0x3F800000, 0x3F800001, 0x3F800002, 0x3FFFFFFF,         # around one
+    0x40000000, 0x40000001, 0x40400000, 0x40490FDB, 0x40800000, 0x407FFFFF,
+    0x4B7FFFFF, 0x4B800000,
+    0x7E7FFFFF, 0x7E800000, 0x7E800001,                     # where 1/x underflows
+    0x7EFFFFFF, 0x7F000000, 0x7F000001, 0x7F7FFFFE, 0x7F7FFFFF,
+    0x7F800000,                                             # infinity
+    0x7F800001, 0x7FA5A5A5, 0x7FBFFFFF,                     # signalling NaNs
+    0x7FC00000, 0x7FC00001, 0x7FDEAD00, 0x7FFFFFFF,         # quiet NaNs
+]
+
+SIGN = 0x80000000
+
+
+def operand(significand, exponent):
+    """The pattern of significand * 2**exponent, which must be a number."""
+    wanted = significand * Fraction(2)**exponent
+    low, high = 0, plate.POSITIVE_INFINITY
+    while high - low > 1:
+        middle = (low + high) // 2
+        if plate.value(middle) <= wanted:
+            low = middle
+        else:
+            high = middle
+    assert plate.value(low) == wanted
+    return low
+
+
+def binary32_calls():
+    chance = random.Random("binary32")
+
+    def status():
+        return chance.choice((0, 0, 1, 2, 4, 8, 16, 31, 32, 64, 128, 224, 255,
+                              chance.randrange(32), chance.randrange(256)))
+
+    def in_all(bits, operations=(1, 2, 3), roundings=(0, 1, 2, 3)):
+        for operation in operations:
+            for rounding in roundings:
+                yield operation, rounding, bits, status()
+
+    # Every class, both signs.
+    for bits in CLASSES:
+        yield from in_all(bits)
+        yield from in_all(bits | SIGN)
+    # Powers of two at every exponent.
+    for exponent in range(-149, 128):
+        yield from in_all(operand(1, exponent))
+    for exponent in range(-149, 128, 9):
+        yield from in_all(operand(1, exponent) | SIGN, operations=(1,))
+    # Whole squares times powers of four: the root's lower and upper agree.
+    # Their neighbours and their doubles do not.
+    for _ in range(120):
+        n = chance.choice((chance.randrange(1, 64), chance.randrange(1, 4096)))
+        bits = operand(n * n, 2 * chance.randrange(-74, 52))
+        yield from in_all(bits, operations=(2,), roundings=(1, 2))
+        yield 2, chance.choice((0, 3)), bits, status()
+        yield 2, chance.randrange(4), bits + chance.choice((-1, 1)), status()
+        yield 3, chance.randrange(4), bits, status()
+    # The hardest operands, as searched, then at other exponents.
+    for line in (HERE / "hard_cases.txt").read_text().splitlines():
+        operation, bits = int(line.split()[0]), int(line.split()[1], 16)
+        yield from in_all(bits, operations=(operation,))
+        exponent = bits >> 23
+        if exponent < 200:
+            shift = 2 * chance.randrange((2 - exponent) // 2, (252 - exponent) // 2)
+            bits += shift << 23
+        sign = SIGN if operation == 1 else 0
+        yield operation, 0, bits | sign, status()
+    # Refusals 1, 2 and both. They keep every bit of the status.
+    for operation in (0, 4, 5, 128, 129, 255):
+        for rounding in (0, 3, 4, 255):
+            yield operation, rounding, chance.choice(CLASSES), status()
+            yield operation, rounding, chance.randrange(2**32), 255
+    for operation in (1, 2, 3):
+        for rounding in (4, 5, 127, 128, 130, 255):
+            yield operation, rounding, chance.choice(CLASSES), status()
+            yield operation, rounding, chance.randrange(2**32), 224
+    # Random patterns, some of them subnormal, some with short fractions.
+    for _ in range(400):
+        yield chance.randint(1, 3), chance.randrange(4), chance.randrange(2**32), status()
+        yield chance.randint(1, 3), chance.randrange(4), chance.randrange(SIGN), status()
+    for _ in range(100):
+        yield chance.randint(1, 3), chance.randrange(4), chance.randrange(2**23), status()
+        bits = chance.randrange(SIGN) >> 19 << 19
+        yield chance.randint(1, 3), chance.randrange(4), bits, status()
+    for _ in range(100):
+        yield 1, chance.randrange(4), chance.randrange(0x7E800000, 0x7F800000), status()
+        yield 1, chance.randrange(4), chance.randrange(1, 0x00400000) | SIGN, status()
+
+
+def binary32_files():
+    given, expected = [], []
+    for call in binary32_calls():
+        given.append("%d %d %08X %d\n" % call)
+        expected.append("%d %08X %d\n" % plate.binary32(*call))
+    return "".join(given).encode(), "".join(expected).encode()
+
+
+# -------------------------------------------------------------------- list
+
+def flat(w, d, height=0):
+    return [[height] * w for _ in range(d)]
+
+
+def plane(w, d, slope_x, slope_y, start=0):
+    return [[start + slope_x * c + slope_y * row for c in range(w)] for row in range(d)]
+
+
+def steep(w, d):
+    """Heights at both limits, so that dx and dy are 100,000 or -100,000."""
+    return [[50000 if (c // 2 + row // 2) % 2 else -50000 for c in range(w)]
+            for row in range(d)]
+
+
+def arched(w, d, rise):
+    """A plate with a recurve at its border."""
+    def arch(k, n):
+        return k * (n - 1 - k) * rise // ((n - 1)**2 // 4) - rise // (1 + k * (n - 1 - k))
+    return [[(arch(c, w) + arch(row, d)) // 2 for c in range(w)] for row in range(d)]
+
+
+def rough(chance, w, d, top):
+    return [[chance.randint(-top, top) for _ in range(w)] for _ in range(d)]
+
+
+def cross(dx, dy, height=0):
+    """3 x 3 heights whose one inner point has these differences."""
+    left, before = -(dx // 2), -(dy // 2)
+    return [[7, before, -7], [left, height, left + dx], [9, before + dy, 50000]]
+
+
+def make_map(rows, step=1000, radius=5000, letters=b"PLT1", distance=None, w=None,
+             d=None, front=b"", behind=b""):
+    body = b"".join(struct.pack("<i", height) for row in rows for height in row)
+    return front + body + letters + struct.pack(
+        "<IHHHH", len(body) if distance is None else distance % 2**32,
+        len(rows[0]) if w is None else w, len(rows) if d is None else d,
+        step, radius) + behind
+
+
+def exact_length(rows):
+    return 12 * (len(rows[0]) - 2) * (len(rows) - 2) + 16
+
+
+# Whole normals with a whole length: a*a + b*b + c*c = t*t.
+WHOLE_NORMALS = [
+    (0, 0, 1, 1), (0, 3, 4, 5), (4, 0, 3, 5), (1, 2, 2, 3), (2, 1, 2, 3), (2, 3, 6, 7),
+    (6, 2, 3, 7), (3, 6, 2, 7), (1, 4, 8, 9), (4, 4, 7, 9), (2, 6, 9, 11), (6, 6, 7, 11),
+    (3, 4, 12, 13), (12, 3, 4, 13), (2, 5, 14, 15), (2, 10, 11, 15), (8, 9, 12, 17),
+    (36, 48, 25, 65), (99, 0, 20, 101),
+]
+
+
+def list_frames():
+    chance = random.Random("list")
+
+    def fitting(rows, **others):
+        return make_map(rows, **others), exact_length(rows)
+
+    def some_size(most):
+        return chance.randint(3, most), chance.randint(3, most)
+
+    # Document 01's example and its table's map.
+    yield fitting(plane(3, 3, 1500, 0), step=2000, radius=5000)
+    yield fitting(plane(3, 3, 500, 0), step=1000, radius=1000)
+
+    # Flat, with every edge of step, radius and height.
+    for step in (1, 2, 9999, 10000):
+        for radius in (1, 2, 12499, 12500):
+            rows = flat(*some_size(5), height=chance.choice((-50000, -1, 0, 50000)))
+            yield fitting(rows, step=step, radius=radius)
+
+    # Steep.
+    for step, radius in ((1, 1), (1, 12500), (10000, 12500), (10000, 1), (317, 6000)):
+        yield fitting(steep(*some_size(9)), step=step, radius=radius)
+        yield fitting(cross(100000, -100000, 50000), step=step, radius=radius)
+        yield fitting(cross(-100000, 99999, -50000), step=step, radius=radius)
+
+    # Normals of whole length: radius a multiple of it, then not, then spoilt.
+    for a, b, c, t in WHOLE_NORMALS:
+        k = chance.randint(1, 30)
+        tilted = plane(*some_size(6), chance.choice((a, -a)) * k, chance.choice((b, -b)) * k)
+        yield fitting(tilted, step=c * k, radius=t * chance.randint(1, 12500 // t))
+        yield fitting(tilted, step=c * k, radius=chance.randint(1, 12500))
+        tilted[1][0] += 1
+        yield fitting(tilted, step=c * k, radius=t)
+        if c % 2 == 0:
+            yield fitting(cross(a * k, -b * k), step=c * k // 2, radius=t)
+            yield fitting(cross(-b * k, a * k), step=c * k // 2, radius=t * k)
+
+    # Random, small and middling, gentle and rough.
+    for top in (1, 3, 20, 300, 5000, 50000):
+        for _ in range(8):
+            rows = rough(chance, *some_size(9), top)
+            yield fitting(rows, step=chance.randint(1, 10000), radius=chance.randint(1, 12500))
+        for _ in range(2):
+            rows = rough(chance, *some_size(20), top)
+            yield fitting(rows, step=chance.randint(1, 50), radius=chance.randint(1, 12500))
+
+    # Long and thin.
+    for w, d in ((3, 64), (64, 3), (4, 63), (63, 4), (64, 5), (5, 64)):
+        yield fitting(rough(chance, w, d, 4000), step=500, radius=6000)
+
+    # The largest.
+    yield fitting(arched(64, 64, 18000), step=3000, radius=6000)
+    yield fitting(rough(chance, 64, 64, 50000), step=1, radius=12500)
+    yield fitting(steep(64, 64), step=10000, radius=12500)
+    yield fitting(plane(64, 64, 200, -300, 5000), step=600, radius=7000)
+    rows = rough(chance, 64, 64, 900)
+    yield make_map(rows), exact_length(rows) - 1
+    yield make_map(rows, front=b"\0"), exact_length(rows)
+    rows[63][63] = 50001
+    yield make_map(rows), exact_length(rows)
+
+    # Buffers of several lengths.
+    for room in (0, 1, 12, 16, 26, 27, 28, 29, 40, 1000):
+        yield make_map(cross(300, -40, 12)), room
+    for _ in range(12):
+        rows = rough(chance, *some_size(8), 3000)
+        length = exact_length(rows)
+        yield make_map(rows), chance.choice((length - 1, length + 1, length + 77, length * 2))
+    yield make_map(flat(4, 4)), 46144
+
+    # 5: fewer than 16 bytes.
+    trailer = make_map(flat(3, 3))[36:]
+    for length in (0, 1, 4, 8, 12, 14, 15):
+        yield trailer[len(trailer) - length:], 28
+    yield trailer[1:], 0
+    yield b"", 0
+
+    # 6: letters.
+    for letters in (b"QLT1", b"PMT1", b"PLU1", b"PLT2", b"PLT0", b"plt1", b"CUT1",
+                    b"1TLP", b"\0\0\0\0", b"PLT\xb1"):
+        yield make_map(flat(3, 3), letters=letters), 28
+    for behind in (b"\0", b"PLT1", bytes(16)):
+        yield make_map(flat(3, 3), behind=behind), 28
+    yield bytes(16), 28
+    yield b"\xff" * 16, 28
+
+    # 7: w and d, with bodies and distances that agree where that is possible.
+    for size in (0, 1, 2, 65, 66, 256, 768, 32771, 65535):
+        body = flat(size, 3) if 0 < size < 300 else flat(3, 3)
+        yield make_map(body, w=size, distance=12 * size), 28
+        yield make_map(body, w=3, d=size, distance=12 * size), 28
+    yield make_map(flat(65, 63), w=65, d=63), 46144
+    yield make_map(flat(3, 3), w=0, d=0, distance=0), 28
+    yield make_map(flat(2, 2)), 28
+    yield make_map(flat(3, 3), w=32768, d=32768, distance=0), 28
+    yield make_map(flat(3, 3), w=65535, d=65535), 28
+
+    # 8: step and radius. Their accepted edges stand above.
+    for step, radius in ((0, 1), (1, 0), (0, 0), (10001, 12500), (10000, 12501),
+                         (10001, 12501), (65535, 1), (1, 65535), (32769, 1), (1, 32769)):
+        yield make_map(flat(3, 3), step=step, radius=radius), 28
+
+    # 9: the distance back and the length.
+    for distance in (0, 1, 12, 32, 35, 37, 40, 52, 36 + 2**16, 36 + 2**31, -36, -1):
+        yield make_map(flat(3, 3), distance=distance), 28
+    for front in (b"\0", b"PLT1", bytes(12), bytes(36)):
+        yield make_map(flat(3, 3), front=front), 28
+        yield make_map(flat(3, 3), front=front, distance=36 + len(front)), 28
+    for missing in (1, 4, 35, 36):
+        whole = make_map(flat(3, 3))
+        yield whole[missing:], 28
+        yield make_map(flat(3, 3), distance=36 - missing)[missing:], 28
+    yield make_map(flat(3, 4), w=3, d=3), 28
+    yield make_map(flat(3, 3), w=3, d=4), 40
+    yield make_map(flat(3, 4), w=4, d=3), 40                # the same product
+
+    # 10: heights at each place, corners too.
+    for place in range(9):
+        for height in (50000, 50001, -50000, -50001):
+            rows = cross(20, 30)
+            rows[place // 3][place % 3] = height
+            yield make_map(rows), 28
+    for height in (2**31 - 1, -2**31, 65536, -65536, 2**24, 2**30):
+        rows = cross(20, 30)
+        rows[chance.randrange(3)][chance.randrange(3)] = height
+        yield make_map(rows), 28
+
+    # Faults 6 to 11 together, by two, by three and all at once.
+    faults = {6: dict(letters=b"PLT\0"), 7: dict(w=2), 8: dict(radius=0),
+              9: dict(distance=40), 10: {}, 11: {}}
+    for count in (2, 3, 6):
+        for chosen in itertools.combinations(faults, count):
+            rows = cross(20, 30)
+            if 10 in chosen:
+                rows[2][2] = -50001
+            settings = {}
+            for number in chosen:
+                settings.update(faults[number])
+            yield make_map(rows, **settings), 27 if 11 in chosen else 28
+
+
+def digest(some_bytes):
+    value = 1
+    for x in some_bytes:
+        value = (value * 257 + x + 1) % 4294967291
+    return value
+
+
+def list_files():
+    given, expected = [], []
+    for a_map, room in list_frames():
+        assert len(a_map) <= 16401 and room <= 46144
+        given.append(struct.pack("<II", len(a_map), room) + a_map)
+        lent = bytes((j * 7 + 3) % 256 for j in range(room))
+        for rounding in range(5):
+            refusal, length, after = plate.cutter_list(rounding, a_map, lent)
+            assert len(after) == room
+            expected.append("%d %d %d\n" % (refusal, length, digest(after)))
+    return b"".join(given), "".join(expected).encode()
+
+
+# --------------------------------------------------------------- platelist
+
+def platelist_files():
+    given = make_map(plane(3, 3, 1500, 0), step=2000, radius=5000)
+    return given, plate.platelist(given)
+
+
+def main():
+    check = sys.argv[1:] == ["--check"]
+    if sys.argv[1:] and not check:
+        sys.exit("usage: make_vectors.py [--check]")
+    differing = 0
+    for name, files in (("raw_vectors", raw_files), ("binary32_vectors", binary32_files),
+                        ("list_vectors", list_files), ("platelist", platelist_files)):
+        for file, content in zip(("stdin", "stdout"), files()):
+            path = CRATES / name / file
+            if check:
+                if not path.is_file() or path.read_bytes() != content:
+                    print(f"{path} differs")
+                    differing = 1
+            else:
+                path.parent.mkdir(parents=True, exist_ok=True)
+                path.write_bytes(content)
+                print(f"{path.relative_to(CRATES.parent)}: {len(content)} bytes, "
+                      f"{content.count(10)} newlines")
+    sys.exit(differing)
+
+
+if __name__ == "__main__":
+    main()

@@ -1,0 +1,348 @@
+"""The plate unit, written from document 01 alone.
+
+Whole numbers and fractions only, no floats. It is written to be laid beside
+the document, not to be fast. The order is the document's: raw unit, binary32
+unit, map and list, questions at the door, the program platelist.
+
+    raw(operation, significand, parity)            -> (refusal, answer)
+    binary32(operation, rounding, bits, status)    -> (refusal, bits, status)
+    cutter_list(rounding, map_bytes, buffer_bytes) -> (refusal, length, buffer)
+    platelist(input_bytes)                         -> output bytes
+
+Refusal 0 means that the call was accepted.
+Run as a program it is platelist: python3 plate.py < map
+"""
+
+import sys
+from fractions import Fraction
+from math import isqrt
+
+# Operations
+RECIPROCAL, ROOT, INVERSE_ROOT = 1, 2, 3
+
+# Roundings
+NEAREST, UP, DOWN, TOWARD_ZERO = 0, 1, 2, 3
+
+# Flags of the status byte
+INVALID, DIVISION_BY_ZERO, OVERFLOW, UNDERFLOW, INEXACT = 1, 2, 4, 8, 16
+ALL_FLAGS = 31
+
+
+# ---------------------------------------------------------------- Raw unit
+
+def reduction(y):
+    """Steps 1 and 2: R, s and a of a significand."""
+    i = y // 2**16
+    r = 32768 // i
+    d = y * r - 2**31
+    s = 1 if d >= 0 else -1
+    a = abs(d) // 8
+    return r, s, a
+
+
+def series(operation, s, a):
+    """The digits of step 2 and the b of step 3. Python's // floors."""
+    a2 = a // 128**2
+    a3 = a // 128 % 128
+    h = a2**2 // 128
+    if operation == RECIPROCAL:
+        return (128 * (2**28 - s*a + a2**2) + 2*a2*a3 - s*h*a2) // 128
+    if operation == ROOT:
+        return (2**39 + 1024*s*a - 256*a2**2 - 4*a2*a3 + s*h*a2) // 2048
+    return (2**39 - 1024*s*a + 768*a2**2 + 12*a2*a3 - 5*s*h*a2) // 2048
+
+
+def multiplier(operation, r, p):
+    """Step 4: M. The largest w with w*w <= t is isqrt(floor(t))."""
+    if operation == RECIPROCAL:
+        return r * 2**20
+    if operation == ROOT:
+        return isqrt(2**(64 + p) // r)
+    return isqrt(r * 2**56 // 2**(8 + p))
+
+
+def raw(operation, significand, parity):
+    refusal = raw_refusal(operation, significand, parity)
+    if refusal:
+        return refusal, 0
+    r, s, a = reduction(significand)
+    b = series(operation, s, a)
+    m = multiplier(operation, r, parity)
+    return 0, m * b // 2**28
+
+
+# ----------------------------------------------------------- Binary32 unit
+
+POSITIVE_INFINITY = 0x7F800000
+LARGEST = 0x7F7FFFFF
+THE_NAN = 0x7FC00000
+
+
+def fields(bits):
+    """Sign, exponent and fraction of a pattern."""
+    return bits >> 31, bits >> 23 & 0xFF, bits & 0x7FFFFF
+
+
+def value(pattern):
+    """The value of a pattern from 00000000 to 7F7FFFFF. For 7F800000 the
+    same rule gives 2**128, the place of infinity as a neighbour."""
+    _, e, f = fields(pattern)
+    if e == 0:
+        return f * Fraction(2)**-149
+    return (2**23 + f) * Fraction(2)**(e - 150)
+
+
+def compare(v, operation, x):
+    """-1, 0 or 1 as v is below, equal to or above the exact result of the
+    operation on x, both positive or v zero. Roots are compared by squares."""
+    if operation == RECIPROCAL:
+        left, right = v * x, 1
+    elif operation == ROOT:
+        left, right = v * v, x
+    else:
+        left, right = v * v * x, 1
+    return (left > right) - (left < right)
+
+
+def lower_neighbour(operation, x):
+    """The largest pattern up to 7F7FFFFF whose value is not above the exact
+    result. Patterns stand in the order of their values."""
+    low, high = 0, LARGEST + 1
+    while high - low > 1:
+        middle = (low + high) // 2
+        if compare(value(middle), operation, x) <= 0:
+            low = middle
+        else:
+            high = middle
+    return low
+
+
+def takes_upper(rounding, negative, half, odd):
+    """Whether the upper of two neighbouring magnitudes is the answer, the
+    exact magnitude lying strictly between them. half is -1, 0 or 1 as it lies
+    below, at or above the middle; odd says that the lower neighbour is odd."""
+    if rounding == NEAREST:
+        return half > 0 or half == 0 and odd
+    if rounding == UP:
+        return not negative
+    if rounding == DOWN:
+        return negative
+    return False
+
+
+def rounded(operation, rounding, negative, x):
+    """The rounded magnitude, as a pattern, and the flags, for an exact result
+    that has a magnitude above zero. x is the operand's magnitude."""
+    low = lower_neighbour(operation, x)
+    if compare(value(low), operation, x) == 0:
+        return low, 0
+    flags = INEXACT
+    middle = (value(low) + value(low + 1)) / 2
+    half = -compare(middle, operation, x)
+    pattern = low + takes_upper(rounding, negative, half, low % 2 == 1)
+    # Overflow, IEEE 754-2019, 7.4: with an unbounded exponent the rounded
+    # magnitude would be 2**128 or more.
+    if compare(Fraction(2)**128, operation, x) <= 0 or pattern > LARGEST:
+        flags |= OVERFLOW
+    # Underflow: below 2**-126 before rounding, and inexact.
+    if compare(Fraction(2)**-126, operation, x) > 0:
+        flags |= UNDERFLOW
+    return pattern, flags
+
+
+def result(operation, rounding, bits):
+    """The answer's pattern and the flags that the operation raises."""
+    sign, e, f = fields(bits)
+    sign_bit = sign << 31
+    is_zero = e == 0 and f == 0
+    is_infinite = e == 255 and f == 0
+    if e == 255 and f != 0:
+        signalling = f >> 22 == 0
+        return THE_NAN, INVALID if signalling else 0
+    if sign == 1 and not is_zero and operation != RECIPROCAL:
+        return THE_NAN, INVALID
+    if is_zero:
+        if operation == ROOT:
+            return bits, 0
+        return sign_bit | POSITIVE_INFINITY, DIVISION_BY_ZERO
+    if is_infinite:
+        if operation == ROOT:
+            return POSITIVE_INFINITY, 0
+        return sign_bit, 0
+    magnitude = bits - sign_bit
+    pattern, flags = rounded(operation, rounding, sign == 1, value(magnitude))
+    return sign_bit | pattern, flags
+
+
+def binary32(operation, rounding, bits, status):
+    refusal = binary32_refusal(operation, rounding)
+    if refusal:
+        return refusal, 0, status
+    answer, flags = result(operation, rounding, bits)
+    return 0, answer, status & ALL_FLAGS | flags
+
+
+# ------------------------------------------------------------ Map and list
+
+TRAILER = 16
+
+
+def whole(some_bytes):
+    """An unsigned little-endian number."""
+    return int.from_bytes(some_bytes, "little")
+
+
+def signed(some_bytes):
+    return int.from_bytes(some_bytes, "little", signed=True)
+
+
+def sizes(map_bytes):
+    """w, d, step and radius from the last 8 bytes."""
+    last = map_bytes[-8:]
+    return whole(last[0:2]), whole(last[2:4]), whole(last[4:6]), whole(last[6:8])
+
+
+def heights(map_bytes):
+    """Every height, row by row."""
+    body = map_bytes[:-TRAILER]
+    return [signed(body[k:k + 4]) for k in range(0, len(body), 4)]
+
+
+def offset(rounding, component, radius, q):
+    """component * radius / sqrt(q), rounded once to a whole number."""
+    negative = component < 0
+    t = abs(component) * radius
+    low = isqrt(t**2 // q)                      # floor of t / sqrt(q)
+    if low**2 * q == t**2:
+        magnitude = low
+    else:
+        middle = (2*low + 1)**2 * q             # against (2t)**2
+        half = ((2*t)**2 > middle) - ((2*t)**2 < middle)
+        magnitude = low + takes_upper(rounding, negative, half, low % 2 == 1)
+    return -magnitude if negative else magnitude
+
+
+def centre(rounding, c, row, height, dx, dy, step, radius):
+    """The centre over column c of a row: the map point plus the offsets."""
+    q = dx**2 + dy**2 + 4 * step**2
+    x = c * step + offset(rounding, -dx, radius, q)
+    y = row * step + offset(rounding, -dy, radius, q)
+    z = height + offset(rounding, 2 * step, radius, q)
+    return x, y, z
+
+
+def centres(rounding, map_bytes):
+    """One (x, y, z) per inner point of an accepted map, row by row."""
+    w, d, step, radius = sizes(map_bytes)
+    all_heights = heights(map_bytes)
+
+    def height(c, row):
+        return all_heights[row * w + c]
+
+    records = []
+    for row in range(1, d - 1):
+        for c in range(1, w - 1):
+            dx = height(c + 1, row) - height(c - 1, row)
+            dy = height(c, row + 1) - height(c, row - 1)
+            records.append(
+                centre(rounding, c, row, height(c, row), dx, dy, step, radius))
+    return records
+
+
+def list_length(w, d):
+    return 12 * (w - 2) * (d - 2) + TRAILER
+
+
+def list_bytes(rounding, map_bytes):
+    """The whole list of an accepted map."""
+    records = b"".join(
+        number.to_bytes(4, "little", signed=True)
+        for record in centres(rounding, map_bytes)
+        for number in record)
+    trailer = b"CUT1" + len(records).to_bytes(4, "little") + map_bytes[-8:]
+    return records + trailer
+
+
+def cutter_list(rounding, map_bytes, buffer_bytes):
+    refusal = list_refusal(rounding, map_bytes, len(buffer_bytes))
+    if refusal:
+        return refusal, 0, buffer_bytes
+    made = list_bytes(rounding, map_bytes)
+    return 0, len(made), made + buffer_bytes[len(made):]
+
+
+# --------------------------------------------------- Questions at the door
+
+def operation_known(operation):                                        # 1
+    return 1 <= operation <= 3
+
+
+def rounding_known(rounding):                                          # 2
+    return 0 <= rounding <= 3
+
+
+def raw_refusal(operation, significand, parity):
+    if not operation_known(operation):
+        return 1
+    if not 8388608 <= significand <= 16777215:
+        return 3
+    if not (parity == 0 or parity == 1 and operation in (ROOT, INVERSE_ROOT)):
+        return 4
+    return 0
+
+
+def binary32_refusal(operation, rounding):
+    if not operation_known(operation):
+        return 1
+    if not rounding_known(rounding):
+        return 2
+    return 0
+
+
+def list_refusal(rounding, map_bytes, buffer_length):
+    if not rounding_known(rounding):
+        return 2
+    if not len(map_bytes) >= TRAILER:
+        return 5
+    trailer = map_bytes[-TRAILER:]
+    if not trailer[0:4] == b"PLT1":
+        return 6
+    w, d, step, radius = sizes(map_bytes)
+    if not (3 <= w <= 64 and 3 <= d <= 64):
+        return 7
+    if not (1 <= step <= 10000 and 1 <= radius <= 12500):
+        return 8
+    distance = whole(trailer[4:8])
+    if not (distance == 4*w*d and len(map_bytes) == distance + TRAILER):
+        return 9
+    if not all(-50000 <= height <= 50000 for height in heights(map_bytes)):
+        return 10
+    if not buffer_length >= list_length(w, d):
+        return 11
+    return 0
+
+
+# ------------------------------------------------------- Program platelist
+
+LONGEST_MAP = 16400
+LONGEST_LIST = 46144
+
+
+def platelist(input_bytes):
+    if len(input_bytes) > LONGEST_MAP:
+        return b"refused 9\n"
+    refusal, length, made = cutter_list(NEAREST, input_bytes, bytes(LONGEST_LIST))
+    if refusal:
+        return b"refused %d\n" % refusal
+    w, d, step, radius = sizes(input_bytes)
+    lines = [(w, d, step, radius)]
+    numbers = [signed(made[k:k + 4]) for k in range(0, length - TRAILER, 4)]
+    for row in range(1, d - 1):
+        for c in range(1, w - 1):
+            record = 3 * ((row - 1) * (w - 2) + c - 1)
+            lines.append((c, row, *numbers[record:record + 3]))
+    return "".join(" ".join(map(str, line)) + "\n" for line in lines).encode()
+
+
+if __name__ == "__main__":
+    sys.stdout.buffer.write(platelist(sys.stdin.buffer.read()))

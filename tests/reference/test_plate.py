@@ -1,0 +1,316 @@
+"""Self-test of plate.py: python3 tests/reference/test_plate.py
+
+The expected values are typed from document 01. Where a check comes from
+elsewhere (IEEE 754, the machine's own arithmetic, counting) its comment says so.
+"""
+
+import math
+import random
+import struct
+import sys
+import unittest
+
+sys.dont_write_bytecode = True
+
+import plate
+from plate import DIVISION_BY_ZERO, DOWN, INEXACT, INVALID, INVERSE_ROOT
+from plate import NEAREST, OVERFLOW, RECIPROCAL, ROOT, TOWARD_ZERO, UNDERFLOW, UP
+
+ROUNDINGS = (NEAREST, UP, DOWN, TOWARD_ZERO)
+
+
+def make_map(rows, step, radius):
+    body = b"".join(struct.pack("<i", height) for row in rows for height in row)
+    return body + b"PLT1" + struct.pack(
+        "<IHHHH", len(body), len(rows[0]), len(rows), step, radius)
+
+
+class Table(unittest.TestCase):
+    """Document 01, "Table for proof", row by row."""
+
+    def test_raw(self):
+        self.assertEqual(plate.raw(1, 8388608, 0), (0, 268435456))
+        self.assertEqual(plate.reduction(12582912), (170, -1, 1048576))
+        self.assertEqual(plate.series(1, -1, 1048576), 269488144)
+        self.assertEqual(plate.raw(1, 12582912, 0), (0, 178956970))
+        self.assertEqual(plate.raw(1, 16777215, 0), (0, 134217736))
+        self.assertEqual(plate.raw(2, 8388608, 1), (0, 379625062))
+        self.assertEqual(plate.raw(3, 8388608, 1), (0, 189812531))
+
+    def test_binary32(self):
+        def both(operation, bits):
+            down = plate.binary32(operation, DOWN, bits, 0)
+            up = plate.binary32(operation, UP, bits, 0)
+            return down, up
+
+        self.assertEqual(both(RECIPROCAL, 0x40400000),
+                         ((0, 0x3EAAAAAA, INEXACT), (0, 0x3EAAAAAB, INEXACT)))
+        self.assertEqual(both(RECIPROCAL, 0xC0400000),
+                         ((0, 0xBEAAAAAB, INEXACT), (0, 0xBEAAAAAA, INEXACT)))
+        self.assertEqual(both(ROOT, 0x40000000),
+                         ((0, 0x3FB504F3, INEXACT), (0, 0x3FB504F4, INEXACT)))
+        for rounding in ROUNDINGS:
+            self.assertEqual(plate.binary32(INVERSE_ROOT, rounding, 0x40800000, 0),
+                             (0, 0x3F000000, 0))
+            self.assertEqual(plate.binary32(RECIPROCAL, rounding, 0x7F000000, 0),
+                             (0, 0x00400000, 0))
+        self.assertEqual(both(RECIPROCAL, 0x00200000),
+                         ((0, 0x7F7FFFFF, OVERFLOW | INEXACT),
+                          (0, 0x7F800000, OVERFLOW | INEXACT)))
+
+    def test_offset(self):
+        q = 5000000
+        self.assertEqual(1000**2 + 0 + 4 * 1000**2, q)
+        self.assertEqual(plate.offset(DOWN, -1000, 1000, q), -448)
+        self.assertEqual(plate.offset(UP, -1000, 1000, q), -447)
+        self.assertEqual(plate.offset(TOWARD_ZERO, -1000, 1000, q), -447)
+        self.assertEqual(plate.offset(DOWN, 2000, 1000, q), 894)
+        self.assertEqual(plate.offset(UP, 2000, 1000, q), 895)
+
+    def test_offset_in_a_map(self):
+        a_map = make_map([[0, 500, 1000]] * 3, 1000, 1000)
+        for rounding, x, z in ((DOWN, 1000 - 448, 500 + 894),
+                               (UP, 1000 - 447, 500 + 895)):
+            refusal, length, made = plate.cutter_list(rounding, a_map, bytes(28))
+            self.assertEqual((refusal, length), (0, 28))
+            self.assertEqual(made, struct.pack("<iii", x, 1000, z) + b"CUT1"
+                             + struct.pack("<IHHHH", 12, 3, 3, 1000, 1000))
+
+    def test_significand_edges(self):
+        self.assertEqual(plate.raw(1, 8388607, 0), (3, 0))
+        self.assertEqual(plate.raw(1, 16777216, 0), (3, 0))
+
+    def test_height_edges(self):
+        for height, refusal in ((50000, 0), (50001, 10), (-50000, 0), (-50001, 10)):
+            for place in range(9):
+                rows = [[0] * 3 for _ in range(3)]
+                rows[place // 3][place % 3] = height
+                got = plate.cutter_list(NEAREST, make_map(rows, 1, 1), bytes(28))
+                self.assertEqual(got[0], refusal)
+
+    def test_buffer_edges(self):
+        a_map = make_map([[0] * 3] * 3, 1, 1)
+        self.assertEqual(plate.cutter_list(NEAREST, a_map, bytes(28))[:2], (0, 28))
+        self.assertEqual(plate.cutter_list(NEAREST, a_map, b"x" * 27),
+                         (11, 0, b"x" * 27))
+
+
+class Platelist(unittest.TestCase):
+    def test_example(self):
+        a_map = make_map([[0, 1500, 3000]] * 3, 2000, 5000)
+        self.assertEqual(plate.platelist(a_map),
+                         b"3 3 2000 5000\n1 1 -1000 2000 5500\n")
+
+    def test_refusals(self):
+        self.assertEqual(plate.platelist(b""), b"refused 5\n")
+        self.assertEqual(plate.platelist(bytes(16)), b"refused 6\n")
+        self.assertEqual(plate.platelist(bytes(16400)), b"refused 6\n")
+        self.assertEqual(plate.platelist(bytes(16401)), b"refused 9\n")
+
+    def test_longest(self):
+        a_map = make_map([[0] * 64] * 64, 1, 1)
+        self.assertEqual(len(a_map), 16400)
+        self.assertEqual(plate.list_length(64, 64), 46144)
+        lines = plate.platelist(a_map).decode().split("\n")
+        self.assertEqual(lines[0], "64 64 1 1")
+        self.assertEqual(lines[1], "1 1 1 1 1")
+        self.assertEqual(lines[-2], "62 62 62 62 1")
+        self.assertEqual((lines[-1], len(lines)), ("", 62 * 62 + 2))
+
+
+class Refusals(unittest.TestCase):
+    def test_raw_order(self):
+        self.assertEqual(plate.raw(0, 0, 9), (1, 0))
+        self.assertEqual(plate.raw(4, 8388608, 0), (1, 0))
+        self.assertEqual(plate.raw(1, 0, 9), (3, 0))
+        self.assertEqual(plate.raw(1, 8388608, 1), (4, 0))
+        self.assertEqual(plate.raw(2, 8388608, 2), (4, 0))
+        self.assertEqual(plate.raw(2, 8388608, 1)[0], 0)
+
+    def test_binary32_order_and_status(self):
+        self.assertEqual(plate.binary32(0, 4, 0x3F800000, 255), (1, 0, 255))
+        self.assertEqual(plate.binary32(1, 4, 0x3F800000, 224), (2, 0, 224))
+        self.assertEqual(plate.binary32(1, 0, 0x3F800000, 255), (0, 0x3F800000, 31))
+        self.assertEqual(plate.binary32(1, 0, 0, 224), (0, 0x7F800000, 2))
+
+    def test_list_order(self):
+        def refusal(rounding=0, front=b"", letters=b"PLT1", distance=36, w=3, d=3,
+                    step=1, radius=1, height=0, room=28):
+            a_map = (front + struct.pack("<i", height) * 9 + letters
+                     + struct.pack("<IHHHH", distance, w, d, step, radius))
+            return plate.cutter_list(rounding, a_map, bytes(room))[0]
+
+        # Each fault stands with every later fault, so the first must be told.
+        wrong = dict(rounding=4, letters=b"CUT1", w=2, step=0, distance=35,
+                     height=50001, room=27)
+        order = ["rounding", "letters", "w", "step", "distance", "height", "room"]
+        for k, number in enumerate((2, 6, 7, 8, 9, 10, 11)):
+            self.assertEqual(refusal(**{name: wrong[name] for name in order[k:]}), number)
+        self.assertEqual(refusal(), 0)
+        self.assertEqual(refusal(front=b"x"), 9)
+        self.assertEqual(refusal(w=65), 7)
+        self.assertEqual(refusal(d=2), 7)
+        self.assertEqual(refusal(step=10000, radius=12500), 0)
+        self.assertEqual(refusal(step=10001), 8)
+        self.assertEqual(refusal(radius=12501), 8)
+        self.assertEqual(refusal(radius=0), 8)
+        self.assertEqual(plate.cutter_list(0, bytes(15), b"ab"), (5, 0, b"ab"))
+        self.assertEqual(plate.cutter_list(4, b"", b"ab"), (2, 0, b"ab"))
+        # Exactly a trailer, sizes in order: there are no heights, so 9.
+        trailer = b"PLT1" + struct.pack("<IHHHH", 36, 3, 3, 1, 1)
+        self.assertEqual(plate.cutter_list(0, trailer, bytes(28))[0], 9)
+
+
+class SpecialOperands(unittest.TestCase):
+    """The dashes under "Binary32 unit"."""
+
+    def check(self, operation, bits, answer, flags):
+        for rounding in ROUNDINGS:
+            self.assertEqual(plate.binary32(operation, rounding, bits, 0),
+                             (0, answer, flags))
+
+    def test_nan(self):
+        for operation in (1, 2, 3):
+            for sign in (0, 0x80000000):
+                self.check(operation, sign | 0x7FC00000, 0x7FC00000, 0)
+                self.check(operation, sign | 0x7FFFFFFF, 0x7FC00000, 0)
+                self.check(operation, sign | 0x7F800001, 0x7FC00000, INVALID)
+                self.check(operation, sign | 0x7FBFFFFF, 0x7FC00000, INVALID)
+
+    def test_negative(self):
+        for operation in (2, 3):
+            for bits in (0x80000001, 0x807FFFFF, 0x80800000, 0xBF800000,
+                         0xFF7FFFFF, 0xFF800000):
+                self.check(operation, bits, 0x7FC00000, INVALID)
+
+    def test_zero(self):
+        self.check(ROOT, 0x00000000, 0x00000000, 0)
+        self.check(ROOT, 0x80000000, 0x80000000, 0)
+        for operation in (RECIPROCAL, INVERSE_ROOT):
+            self.check(operation, 0x00000000, 0x7F800000, DIVISION_BY_ZERO)
+            self.check(operation, 0x80000000, 0xFF800000, DIVISION_BY_ZERO)
+
+    def test_infinity(self):
+        self.check(RECIPROCAL, 0x7F800000, 0x00000000, 0)
+        self.check(RECIPROCAL, 0xFF800000, 0x80000000, 0)
+        self.check(ROOT, 0x7F800000, 0x7F800000, 0)
+        self.check(INVERSE_ROOT, 0x7F800000, 0x00000000, 0)
+
+    def test_overflow(self):
+        # IEEE 754-2019, 7.4: what each rounding gives beyond the largest.
+        for bits in (0x00000001, 0x001FFFFF, 0x00200000):
+            for sign, answers in (
+                    (0, {NEAREST: 0x7F800000, UP: 0x7F800000,
+                         DOWN: 0x7F7FFFFF, TOWARD_ZERO: 0x7F7FFFFF}),
+                    (0x80000000, {NEAREST: 0xFF800000, UP: 0xFF7FFFFF,
+                                  DOWN: 0xFF800000, TOWARD_ZERO: 0xFF7FFFFF})):
+                for rounding in ROUNDINGS:
+                    self.assertEqual(
+                        plate.binary32(RECIPROCAL, rounding, sign | bits, 0),
+                        (0, answers[rounding], OVERFLOW | INEXACT))
+        for rounding in ROUNDINGS:
+            self.assertEqual(
+                plate.binary32(RECIPROCAL, rounding, 0x00200001, 0)[2], INEXACT)
+
+    def test_underflow(self):
+        for bits, flags in ((0x7E7FFFFF, INEXACT), (0x7E800000, 0),
+                            (0x7E800001, INEXACT | UNDERFLOW),
+                            (0x7EFFFFFF, INEXACT | UNDERFLOW), (0x7F000000, 0),
+                            (0x7F000001, INEXACT | UNDERFLOW),
+                            (0x7F7FFFFF, INEXACT | UNDERFLOW)):
+            for rounding in ROUNDINGS:
+                self.assertEqual(plate.binary32(RECIPROCAL, rounding, bits, 0)[2], flags)
+
+
+class Samples(unittest.TestCase):
+    def setUp(self):
+        self.random = random.Random(101)
+
+    def operands(self, count):
+        """Positive finite patterns."""
+        return [self.random.randrange(1, 0x7F800000) for _ in range(count)]
+
+    def test_against_the_machine(self):
+        # A double holds more than twice the bits of a binary32 number, so the
+        # nearest double, rounded again, is the nearest binary32 number as long
+        # as the result is normal.
+        for bits in self.operands(3000):
+            x, = struct.unpack("<f", struct.pack("<I", bits))
+            if 0x00200000 < bits < 0x7E800000:
+                answer, = struct.unpack("<I", struct.pack("<f", 1.0 / x))
+                self.assertEqual(plate.binary32(RECIPROCAL, NEAREST, bits, 0)[1], answer)
+            answer, = struct.unpack("<I", struct.pack("<f", math.sqrt(x)))
+            self.assertEqual(plate.binary32(ROOT, NEAREST, bits, 0)[1], answer)
+
+    def test_raw_distance(self):
+        # Document 01: under 12, 8 and 8 units from 2**28 times the exact value.
+        edges = [i << 16 for i in range(128, 256)] + [(i << 16) - 1 for i in range(129, 257)]
+        for y in edges + [self.random.randrange(2**23, 2**24) for _ in range(3000)]:
+            g = plate.raw(RECIPROCAL, y, 0)[1]
+            self.assertLess(abs(g * y - 2**51), 12 * y)
+            for p in (0, 1):
+                g = plate.raw(ROOT, y, p)[1]        # exact: sqrt(y * 2**(33 + p))
+                self.assertLess((g - 8)**2, y * 2**(33 + p))
+                self.assertGreater((g + 8)**2, y * 2**(33 + p))
+                g = plate.raw(INVERSE_ROOT, y, p)[1]  # exact: sqrt(2**(79 - p) / y)
+                self.assertLess((g - 8)**2 * y, 2**(79 - p))
+                self.assertGreater((g + 8)**2 * y, 2**(79 - p))
+
+    def bracket(self, operation, bits):
+        lower = plate.binary32(operation, DOWN, bits, 0)[1]
+        upper = plate.binary32(operation, UP, bits, 0)[1]
+        self.assertIn(upper - lower, (0, 1))
+        return lower == upper
+
+    def agrees(self, operation, bits):
+        """Demand 3's condition, by the operand's odd part and exponent."""
+        x = plate.value(bits)
+        n, d = x.numerator, x.denominator          # d is a power of two
+        twos = (n & -n).bit_length() - d.bit_length()
+        odd = n // (n & -n)
+        if operation == RECIPROCAL:
+            return odd == 1 and -127 <= twos <= 127
+        if operation == ROOT:
+            return twos % 2 == 0 and math.isqrt(odd)**2 == odd
+        return odd == 1 and twos % 2 == 0
+
+    def test_down_and_up(self):
+        powers = [1 << k for k in range(23)] + [e << 23 for e in range(1, 255)]
+        for operation in (1, 2, 3):
+            for bits in powers + self.operands(500):
+                self.assertEqual(self.bracket(operation, bits), self.agrees(operation, bits))
+        for _ in range(300):
+            n = self.random.randrange(1, 4096)
+            k = self.random.randrange(-74, 53)
+            square, = struct.unpack("<I", struct.pack("<f", math.ldexp(n * n, 2 * k)))
+            self.assertTrue(self.bracket(ROOT, square))
+            self.assertTrue(self.agrees(ROOT, square))
+
+    def test_two_lists(self):
+        for trial in range(60):
+            step = self.random.choice((1, 2, 3, 6, 10, 1000))
+            radius = self.random.choice((1, 5, 10, 65, 5000, 12500))
+            top = self.random.choice((1, 2, 20, 50000))
+            rows = [[self.random.randint(-top, top) for _ in range(5)] for _ in range(4)]
+            if trial % 3 == 0:          # dx 0 or 3/2 of 2*step, dy 0: exact where 5 | radius
+                slope = self.random.choice((0, 3 * step // 2))
+                rows = [[slope * c for c in range(5)]] * 4
+            a_map = make_map(rows, step, radius)
+            lists = [plate.cutter_list(r, a_map, bytes(100))[2] for r in (DOWN, UP)]
+            exact = True
+            for row in range(1, 3):
+                for c in range(1, 4):
+                    dx = rows[row][c + 1] - rows[row][c - 1]
+                    dy = rows[row + 1][c] - rows[row - 1][c]
+                    q = dx * dx + dy * dy + 4 * step * step
+                    root = math.isqrt(q)
+                    exact &= root * root == q and all(
+                        n * radius % root == 0 for n in (dx, dy, 2 * step))
+            self.assertEqual(lists[0] == lists[1], exact)
+            for k in range(0, 72, 4):
+                lower, upper = (plate.signed(one[k:k + 4]) for one in lists)
+                self.assertIn(upper - lower, (0, 1))
+
+
+if __name__ == "__main__":
+    unittest.main()

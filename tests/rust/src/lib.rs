@@ -1,0 +1,15 @@
+//! What the tests of the static library share. Nothing here was written from
+//! the unit's code.
+
+pub mod chance;
+pub mod machine;
+pub mod reference;
+#[cfg(feature = "self")]
+pub mod stand_in;
+pub mod vectors;
+pub mod work;
+
+/// The 64-bit number that a call gives.
+pub fn pack(refusal: u8, status: u8, answer: u32) -> u64 {
+    (refusal as u64) << 40 | (status as u64) << 32 | answer as u64
+}

@@ -1,0 +1,34 @@
+//! The C functions of include/plate.h made from the references of this package,
+//! for trying the tests where there is no library (feature "self"). A green run
+//! with it says nothing about the library; it says that the references agree
+//! with the machine, with the vector files and among themselves.
+
+use crate::{pack, reference};
+
+#[no_mangle]
+extern "C" fn plate_raw(operation: u8, significand: u32, parity: u8) -> u64 {
+    let (refusal, answer) = reference::raw(operation, significand, parity);
+    pack(refusal, 0, answer)
+}
+
+#[no_mangle]
+extern "C" fn plate_binary32(operation: u8, rounding: u8, status: u8, bits: u32) -> u64 {
+    let (refusal, answer, status) = reference::binary32(operation, rounding, bits, status);
+    pack(refusal, status, answer)
+}
+
+/// # Safety
+/// The pointers and lengths must be those of two apart, live byte ranges.
+#[no_mangle]
+unsafe extern "C" fn plate_list(
+    rounding: u8,
+    map: *const u8,
+    map_length: usize,
+    list: *mut u8,
+    list_length: usize,
+) -> u64 {
+    let map = std::slice::from_raw_parts(map, map_length);
+    let list = std::slice::from_raw_parts_mut(list, list_length);
+    let (refusal, length) = reference::list(rounding, map, list);
+    pack(refusal, 0, length)
+}
