@@ -1,11 +1,11 @@
 -- Powers of two: what divides one is one. Assumes nothing.
-use mathlib.Core.Path.{_≡_, refl, ap, ap₂, _∙_}
+use mathlib.Core.Path.{_≡_, refl, sym, ap, ap₂, _∙_}
 use mathlib.Core.Logic.{by-cases}
 use Prim.Native.Nat.{ℕ, zero, suc, _+_, _*_, _/_, _%_, _^_, _<_}
 use native.Mathlib.Nat.{pow-succ', mul-comm}
 use native.Mathlib.Decide.{decLt, ℕ-discrete}
 use native.Mathlib.Omega.{arith}
-use lib.Pow.{pow-mono}
+use lib.Pow.{pow-add, pow-lt, pow-mono}
 
 -- a and b are powers of two whose exponents come to n
 pub record PowersOfTwo (n a b : ℕ) : Type 0 where
@@ -18,6 +18,21 @@ pub record PowersOfTwo (n a b : ℕ) : Type 0 where
 -- the order of powers is that of their exponents
 pub power-below : (i j : ℕ) → 2 ^ i < 2 ^ j → i < j
 power-below i j h = by-cases (decLt i j) (λ l. l) (λ l. omega (arith, pow-mono {i = j} {j = i} (omega arith)))
+
+-- equal powers have equal exponents
+pub power-same : (i j : ℕ) → 2 ^ i ≡ 2 ^ j → i ≡ j
+power-same i j e =
+    by-cases (decLt i j) (λ l. omega (arith, pow-lt l))
+    (λ l. by-cases (decLt j i) (λ k. omega (arith, pow-lt k)) (λ k. omega arith))
+
+-- exponents add up
+pub power-sum : (i j n : ℕ) → i + j ≡ n → 2 ^ i * 2 ^ j ≡ 2 ^ n
+power-sum i j n e = sym (pow-add 2 i j) ∙ ap (λ (k : ℕ). 2 ^ k) e
+
+-- a power of four is the square of one of two
+pub power-of-four : (k : ℕ) → 4 ^ k ≡ 2 ^ k * 2 ^ k
+power-of-four zero = refl
+power-of-four (suc k) = rw (pow-succ' 4 k, pow-succ' 2 k, power-of-four k) (omega arith)
 
 -- where a × b is twice c and a is even, half of a serves for c
 half-left : (a b c : ℕ) → a * b ≡ 2 * c → a % 2 ≡ 0 → a / 2 * b ≡ c

@@ -1,0 +1,83 @@
+-- The lower and the upper answer to a positive finite pattern: equal exactly where the operand's value agrees, else neighbours.
+-- Assumes nothing.
+use mathlib.Core.Path.{_≡_, ap}
+use mathlib.Core.Bool.{false}
+use mathlib.Core.Logic.{_↔_, by-cases}
+use Prim.Native.Nat.{ℕ, suc, _<_}
+use native.Mathlib.Decide.{ℕ-discrete}
+use native.Mathlib.Omega.{arith}
+use lib.Dec.{T, lit<, lit≤}
+use Rattle.kinds.specs.Operation.{Op, isOperation, opOf}
+use Rattle.kinds.specs.Rounding.{Mode, up, down}
+use Rattle.kinds.proofs.Directed.{rounded-exact, rounded-down, rounded-up}
+use Rattle.ieee.specs.Format.{Format, binary32, unitOf, infinity, magnitudeOf}
+use Rattle.ieee.specs.Rounded.{side, limit, lowerOf, placeAt, roundedOf}
+use Rattle.ieee.specs.Answer.{Answer, answerOf}
+use Rattle.ieee.specs.Call.{binary32Bits}
+use Rattle.ieee.specs.Agree.{Agree}
+use Rattle.ieee.proofs.Representable.{Regular}
+use Rattle.ieee.proofs.Exact.{reached-agrees, agree-reached}
+use Rattle.ieee.proofs.Accepted.{accepted-bits}
+use Rattle.ieee.proofs.Finite.{finite-answer}
+
+-- two answers are equal exactly where `agree` holds, and otherwise the upper is the next pattern
+pub record Bracket (agree : Type 0) (lower upper : ℕ) : Type 0 where
+  pub equal : (lower ≡ upper) ↔ agree
+  pub next : (lower ≡ upper → ⊥) → upper ≡ suc lower
+  pub next-unless : (agree → ⊥) → upper ≡ suc lower
+
+module _ (f : Format) (op : Op) (x : ℕ) where
+  -- the side reaches the limit at the lower neighbour
+  abbrev Reached : Type 0
+  Reached = side op x (magnitudeOf f (lowerOf f op x)) ≡ limit (unitOf f) op x
+
+  -- there every rounding gives the lower neighbour,
+  rounded-reached : (mode : Mode) → Reached → roundedOf f op mode false x ≡ lowerOf f op x
+  unfolding roundedOf placeAt
+  rounded-reached mode e = rounded-exact _ _ _ _ _ _ mode e
+
+  -- and elsewhere down gives it and up the next
+  lower : (Reached → ⊥) → roundedOf f op down false x ≡ lowerOf f op x
+  unfolding roundedOf placeAt
+  lower h = rounded-down _ _ _ _ _ _ h
+
+  upper : (Reached → ⊥) → roundedOf f op up false x ≡ suc (lowerOf f op x)
+  unfolding roundedOf placeAt
+  upper h = rounded-up _ _ _ _ _ _ h
+
+module _ (f : Format) (r : Regular f) (op : Op) (t : ℕ) (positive : 0 < t) (finite : t < infinity f) where
+  -- the answer's bits are the rounded magnitude's
+  bits : (mode : Mode) → answerOf f op mode t .bits ≡ roundedOf f op mode false (magnitudeOf f t)
+  bits mode = ap (λ (a : Answer). a .bits) (finite-answer f op mode t positive finite)
+
+  -- the bracket over the format
+  pub format-bracket : Bracket (Agree f op (magnitudeOf f t)) (answerOf f op down t .bits) (answerOf f op up t .bits)
+  format-bracket =
+      let x = magnitudeOf f t in
+      by-cases (ℕ-discrete (side op x (magnitudeOf f (lowerOf f op x))) (limit (unitOf f) op x))
+      (λ e.
+      let same : answerOf f op down t .bits ≡ answerOf f op up t .bits = cc (bits down, bits up, rounded-reached f op x down e, rounded-reached f op x up e) in
+      let agree = reached-agrees f r t positive finite op e in
+      record { equal = (λ s. agree, λ a. same); next = λ h. absurd (h same); next-unless = λ h. absurd (h agree) })
+      (λ h.
+      let next : answerOf f op up t .bits ≡ suc (answerOf f op down t .bits) = cc (bits down, bits up, lower f op x h, upper f op x h) in
+      record {
+        equal = (λ s. absurd (omega arith), λ a. absurd (h (agree-reached f r t positive finite op a)));
+        next = λ s. next;
+        next-unless = λ s. next;
+      })
+
+-- binary32 is such a format
+pub binary32-regular : Regular binary32
+binary32-regular = record { exponent = lit< tt; fraction = lit< tt; wide = lit≤ tt }
+
+-- the bracket of the binary32 answers
+pub bracket : (op : Op) (t : ℕ) → 0 < t → t < infinity binary32
+    → Bracket (Agree binary32 op (magnitudeOf binary32 t)) (answerOf binary32 op down t .bits) (answerOf binary32 op up t .bits)
+bracket op t = format-bracket binary32 binary32-regular op t
+
+-- and of two calls, rounding 2 down and rounding 1 up, whatever status each is given
+pub call-bracket : (operation : ℕ) → T (isOperation operation) → (t : ℕ) → 0 < t → t < infinity binary32
+    → Bracket (Agree binary32 (opOf operation) (magnitudeOf binary32 t)) (binary32Bits operation 2 t) (binary32Bits operation 1 t)
+call-bracket operation h t p l =
+    rw (accepted-bits operation 2 h tt t, accepted-bits operation 1 h tt t) (bracket (opOf operation) t p l)
