@@ -11,7 +11,8 @@ use lib.Dec.{leb, ltb, eqb}
 use lib.Pow.{pow-pos, shr-le}
 use Rattle.kinds.specs.Operation.{Op, reciprocal, root, inverseRoot}
 use Rattle.kinds.specs.Rounding.{Place, exact, below, half, above, placeBy, placeOf}
-use Rattle.ieee.specs.Format.{Format, unitOf, infinity, leastNormal, magnitudeOf}
+use Rattle.numbers.proofs.Powers.{power-of-four}
+use Rattle.ieee.specs.Format.{Format, unitOf, infinity, magnitudeOf}
 use Rattle.ieee.specs.Rounded.{side, limit, twice, fits, lowerOf, placeAt}
 use Rattle.ieee.specs.Guarded.{Guarded, kept, floorPattern, guardBit, stickyBit, isBeyond, Below}
 use Rattle.ieee.proofs.Neighbours.{magnitude-at, rising, rising≤, side-rising, side-rising<, Lower, lower-is}
@@ -35,15 +36,11 @@ module _ (low limit middle doubled : ℕ) where
   place-below l h =
       simp (ne-eqb low limit (λ p. omega arith), le-ltb middle doubled (omega arith), ne-eqb middle doubled (λ p. omega arith))
 
-four-power : (w : ℕ) → 4 ^ w ≡ 2 ^ w * 2 ^ w
-four-power zero = refl
-four-power (suc w) = rw (pow-suc 4 w, pow-suc 2 w) (omega (arith, four-power w))
-
 -- a power of two times the number takes the side as often as the limit is taken
 lifted : (op : Op) (x w a b : ℕ) → twice op ^ w * side op x (a * b) ≡ side op x (a * 2 ^ w * b)
 lifted reciprocal x w a b = omega arith
-lifted root x w a b = rw (four-power w) (omega arith)
-lifted inverseRoot x w a b = rw (four-power w) (omega arith)
+lifted root x w a b = rw (power-of-four w) (omega arith)
+lifted inverseRoot x w a b = rw (power-of-four w) (omega arith)
 
 side-double : (op : Op) (x v : ℕ) → side op x (2 * v) ≡ twice op * side op x v
 side-double reciprocal x v = omega arith
