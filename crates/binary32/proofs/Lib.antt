@@ -1,3 +1,4 @@
 pub mod Magnitudes
 pub mod Reaching
 pub mod Scales
+pub mod Assembly
