@@ -2,3 +2,4 @@ pub mod Magnitudes
 pub mod Reaching
 pub mod Scales
 pub mod Assembly
+pub mod Specials

@@ -76,7 +76,7 @@ fn next_if(away: bool, t: u32) -> u32
     if away { t + 1 } else { t }
 }
 
-fn flag_if(on: bool, flag: Flag) -> u8
+pub fn flag_if(on: bool, flag: Flag) -> u8
     ensures { λ r. ⌜ (r ≡ cond on (flag .0) 0) × (r ≤ flag .0) ⌝ }
 {
     if on { flag.0 } else { 0 }

@@ -2,6 +2,7 @@
 mod floor;
 mod guard;
 mod operand;
+mod special;
 
 // A pattern and the flags that its operation raises.
 pub struct Rounded {
