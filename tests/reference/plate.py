@@ -118,9 +118,10 @@ def lower_neighbour(operation, x):
 
 
 def takes_upper(rounding, negative, half, odd):
-    """Whether the upper of two neighbouring magnitudes is the answer, the
-    exact magnitude lying strictly between them. half is -1, 0 or 1 as it lies
-    below, at or above the middle; odd says that the lower neighbour is odd."""
+    """Whether the upper of two neighbouring magnitudes is the answer. The exact
+    magnitude lies between them, or beyond where the upper one is infinity.
+    half is -1, 0 or 1 as it lies below, at or above the middle; odd says that
+    the lower neighbour is odd."""
     if rounding == NEAREST:
         return half > 0 or half == 0 and odd
     if rounding == UP:

@@ -4,6 +4,7 @@ use mathlib.Core.Bool.{Bool, true, false}
 use Prim.Native.Nat.{ℕ, _%_}
 use lib.Dec.{T}
 use lib.Bits.{bitOr}
+use borrow.Author.Tests.{ne-eqb}
 use Rattle.kinds.specs.Operation.{isOperation, opOf}
 use Rattle.kinds.specs.Rounding.{isRounding, modeOf}
 use Rattle.kinds.specs.Question.{ask}
@@ -14,11 +15,8 @@ use Rattle.ieee.specs.Call.{binary32Refusal, binary32Bits, binary32Statu
 -- two questions, both answered yes
 both-asked : (a b : Bool) → T a → T b → ask a 1 (ask b 2 0) ≡ 0
 unfolding ask
--- two questions, both answered yes
 both-asked true true p q = refl
--- two questions, both answered yes
 both-asked true false p q = absurd q
--- two questions, both answered yes
 both-asked false b p q = absurd p
 
 -- a call with a known operation and a known rounding is accepted
@@ -26,13 +24,22 @@ pub accepted : (operation rounding : ℕ) → T (isOperation operation) → T (i
 unfolding binary32Refusal
 accepted operation rounding h k = both-asked (isOperation operation) (isRounding rounding) h k
 
-module _ (operation rounding : ℕ) (h : T (isOperation operation)) (k : T (isRounding rounding)) (b : ℕ) where
-  -- its bits and its status are those of the answer
-  pub accepted-bits : binary32Bits operation rounding b ≡ answerOf binary32 (opOf operation) (modeOf rounding) b .bits
+module _ (operation rounding b : ℕ) where
+  -- an accepted call gives the answer's bits, and joins the answer's flags to the status
+  pub accepted-bits : binary32Refusal operation rounding ≡ 0 → binary32Bits operation rounding b ≡ answerOf binary32 (opOf operation) (modeOf rounding) b .bits
   unfolding binary32Bits
-  accepted-bits = rw (accepted operation rounding h k)
+  accepted-bits e = rw e
 
-  pub accepted-status : (status : ℕ)
+  pub accepted-status : binary32Refusal operation rounding ≡ 0 → (status : ℕ)
       → binary32Status operation rounding b status ≡ bitOr (status % 32) (answerOf binary32 (opOf operation) (modeOf rounding) b .flags)
   unfolding binary32Status
-  accepted-status status = rw (accepted operation rounding h k)
+  accepted-status e status = rw e
+
+  -- a refused call gives 0, and the status as it was
+  pub refused-bits : (binary32Refusal operation rounding ≡ 0 → ⊥) → binary32Bits operation rounding b ≡ 0
+  unfolding binary32Bits
+  refused-bits h = rw (ne-eqb (binary32Refusal operation rounding) 0 h)
+
+  pub refused-status : (binary32Refusal operation rounding ≡ 0 → ⊥) → (status : ℕ) → binary32Status operation rounding b status ≡ status
+  unfolding binary32Status
+  refused-status h status = rw (ne-eqb (binary32Refusal operation rounding) 0 h)

@@ -1,79 +1,82 @@
--- The rounded result and its flags, from the pattern below the exact result and the two bits of its place. Assumes nothing.
-use mathlib.Core.Path.{_≡_, refl, sym, ap, subst, _∙_}
-use mathlib.Core.Bool.{Bool, true, false, cond, not, _&&_, _||_}
-use mathlib.Core.Logic.{by-cases}
-use Prim.Native.Nat.{ℕ, suc, _+_, _*_, _%_, _≤_, _<_}
-use native.Mathlib.Nat.{le-trans, lt-of-lt-of-le}
-use native.Mathlib.Decide.{decLt}
+-- The status of an accepted call: five flags, and none that stood is lost. Assumes nothing.
+use mathlib.Core.Path.{_≡_}
+use mathlib.Core.Bool.{Bool, true, false, cond, not, _&&_}
+use Prim.Native.Nat.{ℕ, _-_, _%_, _^_, _≤_, _<_, max}
+use native.Mathlib.Nat.{mod-lt}
 use native.Mathlib.Omega.{arith}
-use borrow.Author.Tests.{le-leb, lt-leb, lt-ltb, le-ltb}
-use lib.Dec.{leb, ltb, eqb}
-use Rattle.kinds.specs.Operation.{Op}
-use Rattle.kinds.specs.Rounding.{Mode, Place, exact, below, half, above, away, placeBy, placeOf, roundedBy}
-use Rattle.kinds.specs.Flag.{overflow, underflow, inexact}
-use Rattle.ieee.specs.Format.{Format, unitOf, infinity, leastNormal, magnitudeOf}
-use Rattle.ieee.specs.Rounded.{side, limit, twice, fits, lowerOf, placeAt, roundedOf, isInexact, isOverflow, isUnderflow, flagsOf}
-use Rattle.ieee.specs.Guarded.{Below}
-use Rattle.ieee.proofs.Neighbours.{rising≤, side-rising, Lower, lower-found}
+use lib.Dec.{lit<, ltb, eqb}
+use lib.Bits.{or-lt}
+use Rattle.kinds.specs.Operation.{Op, reciprocal, root, inverseRoot, isReciprocal, opOf}
+use Rattle.kinds.specs.Rounding.{Mode, modeOf}
+use Rattle.kinds.specs.Flag.{invalid, overflow, underflow, inexact}
+use Rattle.numbers.proofs.Bits.{bit, bit-or, or-keeps}
+use Rattle.ieee.specs.Format.{Format, binary32, infinity, quietNaN, magnitudeOf}
+use Rattle.ieee.specs.Rounded.{flagsOf, isOverflow, isUnderflow, isInexact}
+use Rattle.ieee.specs.Answer.{Answer, answer, toNaN, toZero, toInfinity, toFinite, answerOf, signOf, unsigned}
+use Rattle.ieee.specs.Call.{binary32Refusal, binary32Status}
+use Rattle.ieee.proofs.Accepted.{accepted-status}
 
--- whether a place is exact
-atLower : Place → Bool
-atLower exact = true
-atLower below = false
-atLower half = false
-atLower above = false
+-- a flag that may be raised is 0 or itself
+flag-most : (b : Bool) (x : ℕ) → cond b x 0 ≤ x
+flag-most true x = omega arith
+flag-most false x = omega arith
 
-at-lower-by : (low limit middle doubled : ℕ) → atLower (placeBy low limit middle doubled) ≡ eqb low limit
-unfolding placeBy atLower
-at-lower-by low limit middle doubled = go (eqb low limit) (ltb middle doubled) (eqb middle doubled)
-  where
-    go : (a b c : Bool) → atLower (cond a exact (cond b above (cond c half below))) ≡ a
-    go true b c = refl
-    go false true c = refl
-    go false false true = refl
-    go false false false = refl
+-- an answer has no flag but the five
+record Few (a : Answer) : Type 0 where
+  small : a .flags < 32
 
-at-lower-of : (h m : Bool) → not (atLower (placeOf h m)) ≡ h || m
-unfolding atLower
-at-lower-of false false = refl
-at-lower-of false true = refl
-at-lower-of true false = refl
-at-lower-of true true = refl
+either-few : (test : Bool) (x y : Answer) → Few x → Few y → Few (cond test x y)
+either-few true x y p q = p
+either-few false x y p q = q
 
-module _ (f : Format) (op : Op) (x t : ℕ) (half more beyond : Bool) (b : Below f op x t half more beyond) where
-  -- the rounded pattern
-  pub rounded-is : (mode : Mode) (negative : Bool)
-      → roundedOf f op mode negative x ≡ cond (away mode negative (eqb (t % 2) 1) (placeOf half more)) (suc t) t
-  unfolding roundedOf roundedBy
-  rounded-is mode negative = rw (b .lower, b .place)
+-- true of each kind of answer,
+few-nan : (f : Format) (t : ℕ) → Few (toNaN f t)
+few-nan f t = record { small = omega (arith, flag-most (ltb (t % 2 ^ f .fractionBits) (2 ^ (f .fractionBits - 1))) invalid) }
 
-  pub inexact-is : isInexact f op x ≡ half || more
-  unfolding isInexact placeAt
-  inexact-is =
-      rw (b .lower)
-      (ap not (sym (at-lower-by (side op x (magnitudeOf f t)) (limit (unitOf f) op x)
-      (side op x (magnitudeOf f t + magnitudeOf f (suc t))) (twice op * limit (unitOf f) op x)))
-      ∙ ap (λ (p : Place). not (atLower p)) (b .place) ∙ at-lower-of half more)
+few-zero : (f : Format) (op : Op) (s : ℕ) → Few (toZero f op s)
+few-zero f reciprocal s = record { small = lit< tt }
+few-zero f root s = record { small = lit< tt }
+few-zero f inverseRoot s = record { small = lit< tt }
 
-  -- the exact result is below the least normal number where the pattern is
-  pub tiny-is : 0 < f .exponentBits → leastNormal f < infinity f → not (fits f op x (magnitudeOf f (leastNormal f))) ≡ ltb t (leastNormal f)
-  unfolding fits
-  tiny-is some ordered =
-      let low : Lower f op x t = subst (λ (s : ℕ). Lower f op x s) (b .lower) (lower-found f op x some) in
-      by-cases (decLt t (leastNormal f))
-      (λ h.
-      ap not (lt-leb (side op x (magnitudeOf f (leastNormal f))) (limit (unitOf f) op x)
-      (lt-of-lt-of-le (low .passed (omega arith)) (side-rising op x (rising≤ f h))))
-      ∙ sym (lt-ltb t (leastNormal f) h))
-      (λ h.
-      ap not (le-leb (side op x (magnitudeOf f (leastNormal f))) (limit (unitOf f) op x)
-      (le-trans (side-rising op x (rising≤ f {s = leastNormal f} {t = t} (omega arith))) (low .reached)))
-      ∙ sym (le-ltb t (leastNormal f) (omega arith)))
+few-infinity : (f : Format) (op : Op) (s : ℕ) → Few (toInfinity f op s)
+few-infinity f reciprocal s = record { small = lit< tt }
+few-infinity f root s = record { small = lit< tt }
+few-infinity f inverseRoot s = record { small = lit< tt }
 
-  -- the flags, r being the rounded pattern
-  pub flags-are : 0 < f .exponentBits → leastNormal f < infinity f → (mode : Mode) (negative : Bool) (r : ℕ) → roundedOf f op mode negative x ≡ r
-      → flagsOf f op mode negative x
-      ≡ cond (beyond || eqb r (infinity f)) overflow 0 + cond (ltb t (leastNormal f) && (half || more)) underflow 0
-      + cond (half || more) inexact 0
-  unfolding flagsOf isOverflow isUnderflow
-  flags-are some ordered mode negative r e = rw (b .reaches, e, inexact-is, tiny-is some ordered)
+few-finite : (f : Format) (op : Op) (mode : Mode) (s t : ℕ) → Few (toFinite f op mode s t)
+unfolding flagsOf
+few-finite f op mode s t =
+    let x = magnitudeOf f t in
+    record {
+      small = omega (arith, flag-most (isOverflow f op mode (eqb s 1) x) overflow, flag-most (isUnderflow f op x) underflow, flag-most (isInexact f op x) inexact);
+    }
+
+-- so of every one
+few : (f : Format) (op : Op) (mode : Mode) (b : ℕ) → Few (answerOf f op mode b)
+unfolding answerOf
+few f op mode b =
+    let s = signOf f b in
+    let t = unsigned f b in
+    either-few (ltb (infinity f) t) _ _ (few-nan f t)
+    (either-few (eqb s 1 && not (eqb t 0) && not (isReciprocal op)) (answer (quietNaN f) invalid) _ (record { small = lit< tt })
+    (either-few (eqb t 0) _ _ (few-zero f op s)
+    (either-few (eqb t (infinity f)) _ _ (few-infinity f op s)
+    (few-finite f op mode s t))))
+
+module _ (operation rounding b status : ℕ) (accepted : binary32Refusal operation rounding ≡ 0) where
+  -- an accepted call returns one of the 32 statuses, its unknown bits zero,
+  pub status-small : binary32Status operation rounding b status < 32
+  status-small =
+      rw (accepted-status operation rounding b accepted status)
+      (or-lt 5 (status % 32) (answerOf binary32 (opOf operation) (modeOf rounding) b .flags) (mod-lt status (lit< tt))
+      (few binary32 (opOf operation) (modeOf rounding) b .small))
+
+  -- in which a flag stands exactly where it stood or the answer has it,
+  pub status-joins : (k : ℕ)
+      → bit k (binary32Status operation rounding b status)
+      ≡ max (bit k (status % 32)) (bit k (answerOf binary32 (opOf operation) (modeOf rounding) b .flags))
+  status-joins k = rw (accepted-status operation rounding b accepted status) (bit-or k (status % 32) _)
+
+  -- so that no flag that stood is lost
+  pub status-keeps : (k : ℕ) → bit k (status % 32) ≤ bit k (binary32Status operation rounding b status)
+  status-keeps k = rw (accepted-status operation rounding b accepted status) (or-keeps k (status % 32) _)

@@ -1,1 +1,2 @@
 pub mod Offset
+pub mod Inverse

@@ -1,2 +1,3 @@
 pub mod Questions
 pub mod Replies
+pub mod Sticky

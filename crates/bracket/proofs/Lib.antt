@@ -1,0 +1,5 @@
+pub mod Offset
+pub mod Centre
+pub mod Accepted
+pub mod Entries
+pub mod Bracket

@@ -1,0 +1,143 @@
+-- Where the search for 2n over √q begins: at n·low over 2^shift, floored, which is the floor or one below it.
+-- Assumes nothing.
+use Prim.Native.Nat.{ℕ, _+_, _-_, _*_, _/_, _^_, _≤_, _<_}
+use mathlib.Core.Path.{_≡_}
+use mathlib.Core.List.{List, [], _∷_}
+use mathlib.Core.Logic.{by-cases}
+use native.Mathlib.Nat.{mul-le-mul, mul-pos, mul-div-le, lt-mul-div-succ}
+use native.Mathlib.Decide.{decLe, decLt}
+use native.Mathlib.Omega.{arith}
+use lib.Pow.{pow-pos}
+use mir.Syntax.{w64}
+use mir.Val.{Fits}
+use Rattle.numbers.proofs.Ring.{E, v, #, _⊕_, _⊗_, H, _⊙_⊑_, nlin, nlin×}
+use Rattle.offset.specs.Inverse.{InverseOf, DoubledOver, Sizes, radiusMost}
+
+abbrev vn : E
+vn = v 0
+
+abbrev vq : E
+vq = v 1
+
+abbrev vl : E
+vl = v 2
+
+abbrev vw : E
+vw = v 3
+
+abbrev vt : E
+vt = v 4
+
+-- n times the larger neighbour low + 32, and t + 2 times w
+abbrev reach : E
+reach = vn ⊗ (vl ⊕ # 32)
+
+abbrev past : E
+past = (vt ⊕ # 2) ⊗ vw
+
+-- w is 2^shift, and t the floor of n·low over w
+module _ (n q low w t : ℕ) where
+  abbrev ρ : List ℕ
+  ρ = n ∷ q ∷ low ∷ w ∷ t ∷ []
+
+  -- 32 units of low make less than one of t
+  fine : 2 ^ 26 ≤ low → low * low * q ≤ 4 * (w * w) → n * n ≤ radiusMost * radiusMost * q → 32 * n ≤ w
+  fine least below small =
+      by-cases (decLt w (32 * n))
+      (λ h.
+      let no : 1 ≤ 0 =
+      nlin ρ
+      (# 4 ⊗ (vw ⊕ # 32 ⊗ vn) ⊙ vw ⊕ # 1 ⊑ # 32 ⊗ vn
+      ∷ # 1 ⊙ vw ⊕ # 1 ⊑ # 32 ⊗ vn
+      ∷ # 4096 ⊙ vn ⊗ vn ⊑ # (radiusMost * radiusMost) ⊗ vq
+      ∷ (vl ⊕ # 67108864) ⊗ vq ⊙ # 67108864 ⊑ vl
+      ∷ # 1 ⊙ vl ⊗ vl ⊗ vq ⊑ # 4 ⊗ (vw ⊗ vw)
+      ∷ [])
+      (# 1) (# 0) tt (omega arith) in
+      omega arith)
+      (λ h. omega arith)
+
+  -- t is not above 2n over √q
+  low-enough : 0 < w → w * t ≤ n * low → low * low * q ≤ 4 * (w * w) → t * t * q ≤ 4 * (n * n)
+  low-enough pos at below =
+      nlin× ρ (vw ⊗ vw)
+      ((vt ⊗ vw ⊕ vn ⊗ vl) ⊗ vq ⊙ vw ⊗ vt ⊑ vn ⊗ vl
+      ∷ vn ⊗ vn ⊙ vl ⊗ vl ⊗ vq ⊑ # 4 ⊗ (vw ⊗ vw)
+      ∷ [])
+      (vt ⊗ vt ⊗ vq) (# 4 ⊗ (vn ⊗ vn)) tt (mul-pos pos pos) (omega arith)
+
+  -- t + 2 is above it
+  high-enough : 0 < q → n * low < w * (t + 1) → 32 * n ≤ w → 4 * (w * w) ≤ (low + 32) * (low + 32) * q
+      → 4 * (n * n) < (t + 2) * (t + 2) * q
+  high-enough pos at unit above =
+      by-cases (decLe ((t + 2) * (t + 2) * q) (4 * (n * n)))
+      (λ h.
+      let no : 1 ≤ 0 =
+      nlin ρ
+      (vw ⊗ vw ⊙ (vt ⊕ # 2) ⊗ (vt ⊕ # 2) ⊗ vq ⊑ # 4 ⊗ (vn ⊗ vn)
+      ∷ vn ⊗ vn ⊙ # 4 ⊗ (vw ⊗ vw) ⊑ (vl ⊕ # 32) ⊗ (vl ⊕ # 32) ⊗ vq
+      ∷ vq ⊗ (reach ⊕ past) ⊙ reach ⊕ # 1 ⊑ past
+      ∷ past ⊙ # 1 ⊑ vq
+      ∷ # 1 ⊙ reach ⊕ # 1 ⊑ past
+      ∷ [])
+      (# 1) (# 0) tt (omega arith) in
+      omega arith)
+      (λ h. omega arith)
+
+module _ (n q : ℕ) (sizes : Sizes n q) where
+  pub limit-fits : Fits w64 (4 * (n * n))
+  limit-fits = omega (arith, mul-le-mul (sizes .product-most) (sizes .product-most))
+
+  -- what fits where t is not above 2n over √q
+  module _ (t : ℕ) (below : t * t * q ≤ 4 * (n * n)) where
+    -- which is at most twice the largest radius
+    pub start-most : t ≤ 2 * radiusMost
+    start-most =
+        by-cases (decLt (2 * radiusMost) t)
+        (λ l.
+        let no : 1 ≤ 0 =
+        nlin (n ∷ q ∷ t ∷ [])
+        ((v 2 ⊕ # (2 * radiusMost)) ⊗ v 1 ⊙ # (2 * radiusMost + 1) ⊑ v 2
+        ∷ # 1 ⊙ v 2 ⊗ v 2 ⊗ v 1 ⊑ # 4 ⊗ (v 0 ⊗ v 0)
+        ∷ # 4 ⊙ v 0 ⊗ v 0 ⊑ # (radiusMost * radiusMost) ⊗ v 1
+        ∷ # 1 ⊙ # 1 ⊑ v 1
+        ∷ [])
+        (# 1) (# 0) tt (omega arith) in
+        omega arith)
+        (λ l. omega arith)
+
+    pub more-fits : Fits w64 (t + 1)
+    more-fits = omega (arith, start-most)
+
+    pub product-fits : Fits w64 (t * q)
+    product-fits = omega (arith, mul-le-mul start-most (sizes .most))
+
+    pub square-fits : Fits w64 (t * q * t)
+    square-fits = omega (arith, limit-fits .fits)
+
+    pub twice-fits : Fits w64 (2 * (t * q))
+    twice-fits = omega (arith, mul-le-mul start-most (sizes .most))
+
+    pub next-fits : Fits w64 (2 * (t * q) + q)
+    next-fits = omega (arith, mul-le-mul start-most (sizes .most))
+
+  module _ (low shift : ℕ) (inverse : InverseOf q low shift) where
+    pub start-fits : Fits w64 (n * low)
+    start-fits = omega (arith, mul-le-mul (sizes .product-most) (inverse .most))
+
+    -- the start is not above 2n over √q
+    pub start-below : n * low / 2 ^ shift * (n * low / 2 ^ shift) * q ≤ 4 * (n * n)
+    start-below =
+        low-enough n q low (2 ^ shift) (n * low / 2 ^ shift) (pow-pos shift) (mul-div-le (n * low) (2 ^ shift)) (inverse .below)
+
+    -- and two more is above it
+    pub start-above : 4 * (n * n) < (n * low / 2 ^ shift + 2) * (n * low / 2 ^ shift + 2) * q
+    start-above =
+        high-enough n q low (2 ^ shift) (n * low / 2 ^ shift) (sizes .least) (lt-mul-div-succ (n * low) (pow-pos shift))
+        (fine n q low (2 ^ shift) 0 (inverse .least) (inverse .below) (sizes .ratio))
+        (inverse .above)
+
+-- one step up
+pub stepped : (n q t left : ℕ) → t * t * q + left ≡ 4 * (n * n) → 2 * (t * q) + q ≤ left → 4 * (n * n) < (t + 2) * (t + 2) * q
+    → DoubledOver n q (t + 1) (left - (2 * (t * q) + q))
+stepped n q t left is next above = record { whole = omega arith; last = omega arith }

@@ -1,0 +1,46 @@
+-- `offset::inverse_of` meets its contract: the raw answer lies within its distance, which is taken off. Assumes nothing.
+use borrow.Author.Needs.{needs}
+use Rattle.offset.proofs.Significands.{zeros-most, zeros-fit, zeros-below, significand-least, significand-most, parity-most, answer-above, inverse-is}
+use Rattle.offset.proofs.inverse_of.Statement.{statement}
+use Rattle.offset.proofs.inverse_of.Tie as tie
+
+sub-exponent : tie.Need-sub-exponent
+sub-exponent c = search zeros-most
+
+cast-y : tie.Need-cast-y
+cast-y c = search zeros-fit
+
+shl-y : tie.Need-shl-y
+shl-y c = search zeros-below
+
+cast-y-2 : tie.Need-cast-y-2
+cast-y-2 c = search needs
+
+inverse-root-requires : tie.Need-inverse-root-requires
+inverse-root-requires c κs = (search significand-least, search significand-most, search parity-most)
+
+cast-t6 : tie.Need-cast-t6
+cast-t6 c = search needs
+
+sub-t7 : tie.Need-sub-t7
+sub-t7 c = search answer-above
+
+add-t10 : tie.Need-add-t10
+add-t10 c = search needs
+
+returns : tie.Need-returns
+returns c = search inverse-is
+
+pub inverse-of-spec : {M : Type 1} → statement M
+inverse-of-spec =
+    tie.close
+    (tie.spec
+    sub-exponent
+    cast-y
+    shl-y
+    cast-y-2
+    inverse-root-requires
+    cast-t6
+    sub-t7
+    add-t10
+    returns)

@@ -1,0 +1,100 @@
+-- THE DISTANCES. For every significand y, parity p and operation, the raw answer g is less than 12 (reciprocal) or 8 (both roots) away from 2^(4k)
+-- times the exact value, for every digit size k from 7 up and any number t of bits below the three digits. Assumes nothing.
+use mathlib.Core.Path.{_≡_, subst, sym}
+use mathlib.Core.Bool.{Bool}
+use mathlib.Core.List.{[], _∷_}
+use Prim.Native.Nat.{ℕ, _+_, _*_, _-_, _/_, _^_, _≤_, _<_}
+use native.Mathlib.Nat.{mul-sub}
+use native.Mathlib.Omega.{arith}
+use Rattle.kinds.specs.Operation.{Op, reciprocal, root, inverseRoot}
+use Rattle.numbers.proofs.Exponents.{power-of}
+use Rattle.significand.specs.Steps.{indexOf, factorOf, signOf, reducedOf, seriesOf, multiplierOf, rawOf}
+use Rattle.significand.specs.Distance.{Significand, Under, Over, Near, distanceOf}
+use Rattle.significand.proofs.Close.{Close, series-close}
+use Rattle.significand.proofs.Scale.{whole-is, whole-least, over-least, under-most, under-less, over-more}
+use Rattle.significand.proofs.General.{reachOf, general}
+use Rattle.significand.proofs.Reduction.{least, most, reduced-small, reduced}
+use Rattle.significand.proofs.Sums.{pointOf, summed}
+use Rattle.significand.proofs.Multiplier.{multiplies}
+
+module _ (op : Op) (k t y p : ℕ) (h : 7 ≤ k) (e : p ≤ 1) (Y : Significand k t y) where
+  -- R, y R, its sign and a
+  abbrev r : ℕ
+  r = factorOf k (indexOf k t y)
+
+  abbrev s : Bool
+  s = signOf k t (y * r)
+
+  abbrev a : ℕ
+  a = reducedOf k t (y * r)
+
+  abbrev b : ℕ
+  b = seriesOf k op s a
+
+  close : Close op (2 ^ (4 * k)) (2 ^ t) (y * r) b
+  close =
+      subst (λ (n : ℕ). Close op n (2 ^ t) (y * r) b) (sym (whole-is k))
+      (series-close op s (pointOf k op s a) (2 ^ t) (y * r) (reduced k t y h Y .from) (reduced k t y h Y .upto)
+      (summed k a h (reduced-small k t y h Y) op s))
+
+  within : Near op k t y p (reachOf op) (rawOf k t op y p)
+  unfolding rawOf
+  within =
+      general k t y r p (multiplierOf k op r p) b h e Y (least k t y h Y) (most k t y h Y) op
+      (multiplies k r p e (least k t y h Y) (most k t y h Y) op) close
+
+-- the distances promised are no less than those of the general law, and at most 12
+pub promised : (op : Op) → (reachOf op ≤ distanceOf op) × (distanceOf op ≤ 12)
+promised reciprocal = omega arith
+promised root = omega arith
+promised inverseRoot = omega arith
+
+module _ (op : Op) (k t y p : ℕ) (h : 7 ≤ k) (e : p ≤ 1) (Y : Significand k t y) where
+  abbrev g : ℕ
+  g = rawOf k t op y p
+
+  pub distance : Near op k t y p (distanceOf op) (rawOf k t op y p)
+  distance =
+      let near : Near op k t y p (reachOf op) g = within op k t y p h e Y in
+      let over : Over op k (3 * k + t - 1) y p (g + distanceOf op) =
+      over-more op k (3 * k + t - 1) y p (g + reachOf op) (g + distanceOf op) (omega (arith, promised op)) (near .over) in
+      record {
+        enough = omega (arith, over-least k t y p (g + distanceOf op) h e Y op over, whole-least k h, promised op);
+        under = under-less op k (3 * k + t - 1) y p (g - reachOf op) (g - distanceOf op) (omega (arith, promised op)) (near .under);
+        over = over;
+      }
+
+  -- so g is from 2^(4k − 1) to 2^(4k + 1), but for that distance
+  pub answer-least : 2 ^ (4 * k) < 2 * (rawOf k t op y p + distanceOf op)
+  answer-least = over-least k t y p (g + distanceOf op) h e Y op (distance .over)
+
+  pub answer-most : rawOf k t op y p < 2 ^ (4 * k + 1) + distanceOf op
+  answer-most =
+      omega (
+        arith,
+        under-most k t y p (g - distanceOf op) h e Y op (distance .under),
+        distance .enough,
+        power-of (4 * k + 1) (1 ∷ 4 * k ∷ []) (omega arith),
+      )
+
+-- The three by themselves, written out. Here m = 3k + t − 1.
+module _ (k t y : ℕ) (h : 7 ≤ k) (Y : Significand k t y) where
+  pub reciprocal-distance : let g : ℕ = rawOf k t reciprocal y 0 in
+      (g * y < 2 ^ (4 * k + (3 * k + t - 1)) + 12 * y) × (2 ^ (4 * k + (3 * k + t - 1)) < g * y + 12 * y)
+  reciprocal-distance =
+      let g : ℕ = rawOf k t reciprocal y 0 in
+      let d : Near reciprocal k t y 0 12 g = distance reciprocal k t y 0 h (omega arith) Y in
+      omega (arith, d .under, d .over, d .enough, mul-sub y g 12)
+
+  module _ (p : ℕ) (e : p ≤ 1) where
+    pub root-distance : let g : ℕ = rawOf k t root y p in
+        (8 ≤ g) × ((g - 8) * (g - 8) * 2 ^ (3 * k + t - 1) < y * 2 ^ (8 * k + p)) × (y * 2 ^ (8 * k + p) < (g + 8) * (g + 8) * 2 ^ (3 * k + t - 1))
+    root-distance =
+        let d : Near root k t y p 8 (rawOf k t root y p) = distance root k t y p h e Y in
+        (d .enough, d .under, d .over)
+
+    pub inverse-root-distance : let g : ℕ = rawOf k t inverseRoot y p in
+        (8 ≤ g) × ((g - 8) * (g - 8) * y * 2 ^ p < 2 ^ (8 * k + (3 * k + t - 1))) × (2 ^ (8 * k + (3 * k + t - 1)) < (g + 8) * (g + 8) * y * 2 ^ p)
+    inverse-root-distance =
+        let d : Near inverseRoot k t y p 8 (rawOf k t inverseRoot y p) = distance inverseRoot k t y p h e Y in
+        (d .enough, d .under, d .over)

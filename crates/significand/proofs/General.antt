@@ -1,0 +1,115 @@
+-- The general law of the answer's distance: for any M within one unit of the exact M, and any b close to the exact series, M b / 2^(4k), floored,
+-- is within 12 (reciprocal) or 7 (both roots) of 2^(4k) times the exact value. Assumes nothing.
+use mathlib.Core.Path.{_≡_, ap}
+use mathlib.Core.List.{[], _∷_}
+use Prim.Native.Nat.{ℕ, _+_, _*_, _-_, _/_, _^_, _≤_, _<_}
+use native.Mathlib.Nat.{div-mul-le-self, lt-div-mul-add, mul-le-mul-left, mul-sub, mul-comm}
+use native.Mathlib.Omega.{arith}
+use lib.Pow.{pow-pos}
+use Rattle.kinds.specs.Operation.{Op, reciprocal, root, inverseRoot}
+use Rattle.numbers.proofs.Exponents.{power-of}
+use Rattle.significand.specs.Distance.{Significand, Under, Over, Near}
+use Rattle.significand.proofs.Close.{Close}
+use Rattle.significand.proofs.Units.{Setting, Floored, root-multiplier, inverse-multiplier, recip-multiplier, root-under, root-over, inverse-under, inverse-over, recip-under, recip-over}
+use Rattle.significand.proofs.Scale.{setting, whole-is, whole-least, parity-most, quotient-scale, square-scale, root-power, inverse-power, whole-square, over-least}
+
+-- M is the exact M (reciprocal), or less than one unit away from it: √(2^(9k + 1 + p) / r), √(r 2^(8k) / 2^(k + 1 + p))
+pub record RootUnit (k r p M : ℕ) : Type 0 where
+  pub low : (M - 1) * (M - 1) * r < 2 ^ (9 * k + 1 + p)
+  pub high : 2 ^ (9 * k + 1 + p) < (M + 1) * (M + 1) * r
+
+pub record InverseUnit (k r p M : ℕ) : Type 0 where
+  pub low : (M - 1) * (M - 1) * 2 ^ (k + 1 + p) < r * 2 ^ (8 * k)
+  pub high : r * 2 ^ (8 * k) < (M + 1) * (M + 1) * 2 ^ (k + 1 + p)
+
+abbrev pub Multiplies : Op → ℕ → ℕ → ℕ → ℕ → Type 0
+Multiplies reciprocal k r p M = M ≡ r * 2 ^ (3 * k - 1)
+Multiplies root k r p M = RootUnit k r p M
+Multiplies inverseRoot k r p M = InverseUnit k r p M
+
+-- the distance that follows
+abbrev pub reachOf : Op → ℕ
+reachOf reciprocal = 12
+reachOf root = 7
+reachOf inverseRoot = 7
+
+module _ (k r p M : ℕ) (h : 7 ≤ k) where
+  abbrev Z : ℕ
+  Z = 2 ^ k
+
+  abbrev N : ℕ
+  N = 2 ^ (4 * k)
+
+  -- the rules for M over Z, N and 2^p
+  root-low : RootUnit k r p M → r * ((M - 1) * (M - 1)) < 2 * Z * N * N * 2 ^ p
+  root-low near = omega (arith, near .low, root-power k p)
+
+  root-high : RootUnit k r p M → 2 * Z * N * N * 2 ^ p < r * ((M + 1) * (M + 1))
+  root-high near = omega (arith, near .high, root-power k p)
+
+  inverse-low : InverseUnit k r p M → 2 * Z * 2 ^ p * ((M - 1) * (M - 1)) < r * (N * N)
+  inverse-low near = omega (arith, near .low, ap (λ (n : ℕ). (M - 1) * (M - 1) * n) (inverse-power k p), ap (λ (n : ℕ). r * n) (whole-square k))
+
+  inverse-high : InverseUnit k r p M → r * (N * N) < 2 * Z * 2 ^ p * ((M + 1) * (M + 1))
+  inverse-high near = omega (arith, near .high, ap (λ (n : ℕ). (M + 1) * (M + 1) * n) (inverse-power k p), ap (λ (n : ℕ). r * n) (whole-square k))
+
+  recip-twice : M ≡ r * 2 ^ (3 * k - 1) → 2 * M ≡ r * (Z * Z * Z)
+  recip-twice is =
+      omega (
+        arith,
+        is,
+        ap (λ (n : ℕ). r * n) (power-of (3 * k) (1 ∷ (3 * k - 1) ∷ []) (omega arith)),
+        ap (λ (n : ℕ). r * n) (power-of (3 * k) (k ∷ k ∷ k ∷ []) (omega arith)),
+      )
+
+  -- such an M has 4k + 2 bits at most
+  pub multiplier-most : p ≤ 1 → 2 ^ k ≤ r → r ≤ 2 ^ (k + 1) → (op : Op) → Multiplies op k r p M → M ≤ 2 ^ (4 * k + 1)
+  multiplier-most e least most op near = omega (arith, go op near, power-of (4 * k + 1) (1 ∷ 4 * k ∷ []) (omega arith))
+    where
+      top : r ≤ 2 * Z
+      top = omega (arith, most, power-of (k + 1) (1 ∷ k ∷ []) (omega arith))
+      go : (op : Op) → Multiplies op k r p M → M ≤ 2 * N
+      go reciprocal is = omega (arith, recip-multiplier Z N (2 ^ p) r M top (whole-is k) (recip-twice is))
+      go root near = root-multiplier Z N (2 ^ p) r M least (parity-most p e) (root-low near)
+      go inverseRoot near = omega (arith, inverse-multiplier Z N (2 ^ p) r M top (pow-pos p) (inverse-low near))
+
+module _ (k t y r p M b : ℕ) (h : 7 ≤ k) (e : p ≤ 1) (Y : Significand k t y) (least : 2 ^ k ≤ r) (most : r ≤ 2 ^ (k + 1)) where
+  abbrev m : ℕ
+  m = 3 * k + t - 1
+
+  abbrev g : ℕ
+  g = M * b / 2 ^ (4 * k)
+
+  K : Setting (2 ^ k) (2 ^ (4 * k)) (2 ^ t) (2 ^ m) (2 ^ p) y r
+  K = setting k t y r p h e Y least most
+
+  F : Floored (2 ^ (4 * k)) M b g
+  F = record { low = div-mul-le-self (M * b) (2 ^ (4 * k)); high = lt-div-mul-add (pow-pos (4 * k)) }
+
+  under : (op : Op) → Multiplies op k r p M → Close op (2 ^ (4 * k)) (2 ^ t) (y * r) b → Under op k m y p (g - reachOf op)
+  under reciprocal is C =
+      omega (arith, recip-under (2 ^ k) (2 ^ (4 * k)) (2 ^ t) (2 ^ m) (2 ^ p) y r M b g K F (recip-twice k r p M h is) C, quotient-scale k m, mul-sub y g 12, K .significand, pow-pos (4 * k + m))
+  under root near C =
+      rw square-scale (root-under (2 ^ k) (2 ^ (4 * k)) (2 ^ t) (2 ^ m) (2 ^ p) y r M b g K F (root-low k r p M h near) (root-high k r p M h near) C)
+  under inverseRoot near C =
+      rw square-scale (omega (arith, inverse-under (2 ^ k) (2 ^ (4 * k)) (2 ^ t) (2 ^ m) (2 ^ p) y r M b g K F (inverse-low k r p M h near) (inverse-high k r p M h near) C))
+
+  over : (op : Op) → Multiplies op k r p M → Close op (2 ^ (4 * k)) (2 ^ t) (y * r) b → Over op k m y p (g + reachOf op)
+  over reciprocal is C = rw quotient-scale (recip-over (2 ^ k) (2 ^ (4 * k)) (2 ^ t) (2 ^ m) (2 ^ p) y r M b g K F (recip-twice k r p M h is) C)
+  over root near C =
+      rw square-scale (root-over (2 ^ k) (2 ^ (4 * k)) (2 ^ t) (2 ^ m) (2 ^ p) y r M b g K F (root-low k r p M h near) (root-high k r p M h near) C)
+  over inverseRoot near C =
+      rw square-scale (omega (arith, inverse-over (2 ^ k) (2 ^ (4 * k)) (2 ^ t) (2 ^ m) (2 ^ p) y r M b g K F (inverse-low k r p M h near) (inverse-high k r p M h near) C))
+
+  reach-small : (op : Op) → reachOf op ≤ 12
+  reach-small reciprocal = omega arith
+  reach-small root = omega arith
+  reach-small inverseRoot = omega arith
+
+  pub general : (op : Op) → Multiplies op k r p M → Close op (2 ^ (4 * k)) (2 ^ t) (y * r) b → Near op k t y p (reachOf op) g
+  general op near C =
+      record {
+        enough = omega (arith, over-least k t y p (g + reachOf op) h e Y op (over op near C), whole-least k h, reach-small op);
+        under = under op near C;
+        over = over op near C;
+      }
