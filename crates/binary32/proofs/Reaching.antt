@@ -14,7 +14,8 @@ use mir.Val.{Fits}
 use Rattle.kinds.specs.Operation.{Op, reciprocal, root, inverseRoot}
 use Rattle.ieee.specs.Rounded.{side}
 use Rattle.ieee.proofs.Neighbours.{side-rising}
-use Rattle.binary32.specs.Floor.{targetOf, strideOf, spreadOf, distanceOf, stepsOf, Near, Reached, stepped, Stepped, remainderOf}
+use Rattle.significand.specs.Distance.{Near, Under, Over, distanceOf}
+use Rattle.binary32.specs.Floor.{targetOf, strideOf, spreadOf, stepsOf, Reached, stepped, Stepped, remainderOf}
 use Rattle.binary32.specs.declared.floor.Partial.{Partial}
 
 -- the start: the raw answer less its distance, in the floor's steps
@@ -41,20 +42,39 @@ spread-pos reciprocal = omega arith
 spread-pos root = omega arith
 spread-pos inverseRoot = omega arith
 
-module _ (op : Op) (y p g : ℕ) (near : Near op y p g) where
+-- a number below or above the exact result, in the raw unit's steps, is so by its side
+under-side : (op : Op) (y p v : ℕ) → p ≤ 1 → Under op 7 23 y p v → side op y v < spreadOf op * targetOf op y p
+under-side reciprocal y p v h u = omega arith
+under-side root y zero v h u = omega arith
+under-side root y (suc zero) v h u = omega arith
+under-side root y (suc (suc p)) v h u = absurd (omega arith)
+under-side inverseRoot y zero v h u = omega arith
+under-side inverseRoot y (suc zero) v h u = omega arith
+under-side inverseRoot y (suc (suc p)) v h u = absurd (omega arith)
+
+over-side : (op : Op) (y p v : ℕ) → p ≤ 1 → Over op 7 23 y p v → spreadOf op * targetOf op y p < side op y v
+over-side reciprocal y p v h u = omega arith
+over-side root y zero v h u = omega arith
+over-side root y (suc zero) v h u = omega arith
+over-side root y (suc (suc p)) v h u = absurd (omega arith)
+over-side inverseRoot y zero v h u = omega arith
+over-side inverseRoot y (suc zero) v h u = omega arith
+over-side inverseRoot y (suc (suc p)) v h u = absurd (omega arith)
+
+module _ (op : Op) (y p g : ℕ) (parity : p ≤ 1) (near : Near op 7 3 y p (distanceOf op) g) where
   -- the start is at or below the floor,
   pub started-low : side op y (startOf op g) < targetOf op y p
   started-low =
       lt-of-mul-lt-mul-left (spreadOf op)
       (subst (λ (n : ℕ). n < spreadOf op * targetOf op y p) (spread op y (startOf op g))
-      (lt-of-le-of-lt (side-rising op y (start-low op g)) (near .low)))
+      (lt-of-le-of-lt (side-rising op y (start-low op g)) (under-side op y p (g - distanceOf op) parity (near .under))))
 
   -- and the steps lead past it
   pub started-high : targetOf op y p < side op y (startOf op g + suc (stepsOf op))
   started-high =
       lt-of-mul-lt-mul-left (spreadOf op)
       (subst (λ (n : ℕ). spreadOf op * targetOf op y p < n) (spread op y (startOf op g + suc (stepsOf op)))
-      (lt-of-lt-of-le (near .high) (side-rising op y (start-high op g))))
+      (lt-of-lt-of-le (over-side op y p (g + distanceOf op) parity (near .over)) (side-rising op y (start-high op g))))
 
   pub started : Reached op y (targetOf op y p) (record { quotient = startOf op g; left = targetOf op y p - side op y (startOf op g) }) (stepsOf op)
   started = record { is = omega (arith, started-low); above = started-high }
@@ -118,16 +138,16 @@ quotient-small op y p q low high parity h =
     go inverseRoot (suc zero) b k = omega arith
     go inverseRoot (suc (suc n)) b k = omega arith
 
-pub start-small : (op : Op) (y p g : ℕ) → 8388608 ≤ y → y < 16777216 → p ≤ 1 → Near op y p g → startOf op g ≤ 2 ^ 25
+pub start-small : (op : Op) (y p g : ℕ) → 8388608 ≤ y → y < 16777216 → p ≤ 1 → Near op 7 3 y p (distanceOf op) g → startOf op g ≤ 2 ^ 25
 start-small op y p g low high parity near =
-    quotient-small op y p (startOf op g) low high parity (le-of-lt (started-low op y p g near))
+    quotient-small op y p (startOf op g) low high parity (le-of-lt (started-low op y p g parity near))
 
 -- the reciprocal's three steps
-pub reciprocal-reached : (y g : ℕ) (a b r : Partial) → Near reciprocal y 0 g
+pub reciprocal-reached : (y g : ℕ) (a b r : Partial) → Near reciprocal 7 3 y 0 12 g
     → Stepped (record { quotient = (g - 12) / 8; left = 2 ^ 48 - y * ((g - 12) / 8) }) y a → Stepped a y b → Stepped b y r
     → Reached reciprocal y (targetOf reciprocal y 0) r 0
 reciprocal-reached y g a b r near sa sb sr =
-    let first = nearer reciprocal y (2 ^ 48) 2 _ a (started reciprocal y 0 g near) sa in
+    let first = nearer reciprocal y (2 ^ 48) 2 _ a (started reciprocal y 0 g (omega arith) near) sa in
     nearer reciprocal y (2 ^ 48) 0 b r (nearer reciprocal y (2 ^ 48) 1 a b first sb) sr
 
 -- the root's target fits a word
@@ -140,11 +160,11 @@ pub root-shifted : (y p : ℕ) → y < 16777216 → p ≤ 1 → y * 2 ^ (25 + p)
 root-shifted y p h k = mod-eq-of-lt (omega (arith, root-target y p h k))
 
 -- the root's one step
-pub root-reached : (y p g : ℕ) (r : Partial) → y < 16777216 → p ≤ 1 → Near root y p g
+pub root-reached : (y p g : ℕ) (r : Partial) → y < 16777216 → p ≤ 1 → Near root 7 3 y p 8 g
     → Stepped (record { quotient = (g - 8) / 16; left = y * 2 ^ (25 + p) % 2 ^ 64 - (g - 8) / 16 * ((g - 8) / 16) }) (2 * ((g - 8) / 16) + 1) r
     → Reached root y (targetOf root y p) r 0
 root-reached y p g r h k near s =
-    nearer root y (targetOf root y p) 0 _ r (started root y p g near) (rw (root-shifted y p h k) at s)
+    nearer root y (targetOf root y p) 0 _ r (started root y p g k near) (rw (root-shifted y p h k) at s)
 
 -- what a number leaves of a multiple of 2^56, by its lower 56 bits, where that is below 2^56
 pub remainder-tells : (n m l : ℕ) → n + l ≡ m * 2 ^ 56 → l < 2 ^ 56 → (2 ^ 57 - n % 2 ^ 56) % 2 ^ 56 ≡ l
@@ -172,23 +192,23 @@ inverse-target y (suc zero) h = (2 ^ 16, refl)
 inverse-target y (suc (suc p)) h = absurd (omega arith)
 
 -- the remainder at the start
-pub inverse-left : (y p g : ℕ) → 8388608 ≤ y → y < 16777216 → p ≤ 1 → Near inverseRoot y p g
+pub inverse-left : (y p g : ℕ) → 8388608 ≤ y → y < 16777216 → p ≤ 1 → Near inverseRoot 7 3 y p 8 g
     → remainderOf (startOf inverseRoot g) y ≡ targetOf inverseRoot y p - side inverseRoot y (startOf inverseRoot g)
 unfolding remainderOf
 inverse-left y p g low high parity near =
     let q = startOf inverseRoot g in
     let m = inverse-target y p parity in
     let small = start-small inverseRoot y p g low high parity near in
-    let l = started-low inverseRoot y p g near in
-    let u = started-high inverseRoot y p g near in
+    let l = started-low inverseRoot y p g parity near in
+    let u = started-high inverseRoot y p g parity near in
     remainder-tells (q * q * y) (m .0) (targetOf inverseRoot y p - q * q * y) (omega (arith, l, m .1)) (omega (arith, u, inverse-room q y small high))
 
 -- the inverse root's two steps
-pub inverse-root-reached : (y p g l : ℕ) (a r : Partial) → 8388608 ≤ y → y < 16777216 → p ≤ 1 → Near inverseRoot y p g
+pub inverse-root-reached : (y p g l : ℕ) (a r : Partial) → 8388608 ≤ y → y < 16777216 → p ≤ 1 → Near inverseRoot 7 3 y p 8 g
     → l ≡ remainderOf ((g - 8) / 8) y
     → Stepped (record { quotient = (g - 8) / 8; left = l }) ((2 * ((g - 8) / 8) + 1) * y) a → Stepped a ((2 * a .quotient + 1) * y) r
     → Reached inverseRoot y (targetOf inverseRoot y p) r 0
 inverse-root-reached y p g l a r low high parity near e sa sr =
     let x = targetOf inverseRoot y p in
-    let first = nearer inverseRoot y x 1 _ a (started inverseRoot y p g near) (rw (e ∙ inverse-left y p g low high parity near) at sa) in
+    let first = nearer inverseRoot y x 1 _ a (started inverseRoot y p g parity near) (rw (e ∙ inverse-left y p g low high parity near) at sa) in
     nearer inverseRoot y x 0 a r first sr

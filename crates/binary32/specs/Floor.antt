@@ -25,23 +25,11 @@ spreadOf reciprocal = 8
 spreadOf root = 256
 spreadOf inverseRoot = 64
 
--- the distance of g from the exact result
-abbrev pub distanceOf : Op → ℕ
-distanceOf reciprocal = 12
-distanceOf root = 8
-distanceOf inverseRoot = 8
-
 -- how many steps lead from the start to the floor at most
 abbrev pub stepsOf : Op → ℕ
 stepsOf reciprocal = 3
 stepsOf root = 1
 stepsOf inverseRoot = 2
-
--- g is near the exact result
-pub record Near (op : Op) (y p g : ℕ) : Type 0 where
-  pub least : 134217716 ≤ g
-  pub low : side op y (g - distanceOf op) < spreadOf op * targetOf op y p
-  pub high : spreadOf op * targetOf op y p < side op y (g + distanceOf op)
 
 -- a number at or below the floor, with what it leaves of the target x; n steps or fewer lead to the floor
 pub record Reached (op : Op) (y x : ℕ) (r : Partial) (n : ℕ) : Type 0 where

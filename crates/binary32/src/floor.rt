@@ -2,7 +2,8 @@
 ghost use mathlib.Core.Path.{_≡_};
 ghost use Prim.Native.Nat.{_+_, _*_, _^_, _≤_, _<_};
 ghost use Rattle.kinds.specs.Operation.{reciprocal as Op·reciprocal, root as Op·root, inverseRoot as Op·inverseRoot};
-ghost use Rattle.binary32.specs.Floor.{Near, Reached, Stepped, targetOf, remainderOf};
+ghost use Rattle.significand.specs.Distance.{Near};
+ghost use Rattle.binary32.specs.Floor.{Reached, Stepped, targetOf, remainderOf};
 
 // A number at or below the floor, and what its product leaves of the target.
 pub struct Partial {
@@ -26,7 +27,7 @@ fn step(x: Partial, amount: u64) -> Partial
 
 // 2^48 / y: three steps are enough.
 pub fn reciprocal(y: u64, g: u64) -> Partial
-    requires { ⌜ (8388608 ≤ y) × (y < 16777216) × (g < 2 ^ 32) × Near Op·reciprocal y 0 g ⌝ }
+    requires { ⌜ (8388608 ≤ y) × (y < 16777216) × (g < 2 ^ 32) × Near Op·reciprocal 7 3 y 0 12 g ⌝ }
     ensures { λ r. ⌜ Reached Op·reciprocal y (targetOf Op·reciprocal y 0) r 0 ⌝ }
 {
     let q = (g - 12) / 8;
@@ -39,7 +40,7 @@ pub fn reciprocal(y: u64, g: u64) -> Partial
 
 // The root of y × 2^(25 + p): one step is enough.
 pub fn root(y: u64, p: u64, g: u64) -> Partial
-    requires { ⌜ (8388608 ≤ y) × (y < 16777216) × (p ≤ 1) × (g < 2 ^ 32) × Near Op·root y p g ⌝ }
+    requires { ⌜ (8388608 ≤ y) × (y < 16777216) × (p ≤ 1) × (g < 2 ^ 32) × Near Op·root 7 3 y p 8 g ⌝ }
     ensures { λ r. ⌜ Reached Op·root y (targetOf Op·root y p) r 0 ⌝ }
 {
     let q = (g - 8) / 16;
@@ -52,7 +53,7 @@ pub fn root(y: u64, p: u64, g: u64) -> Partial
 
 // The root of 2^(73 - p) / y: two steps are enough.
 pub fn inverse_root(y: u64, p: u64, g: u64) -> Partial
-    requires { ⌜ (8388608 ≤ y) × (y < 16777216) × (p ≤ 1) × (g < 2 ^ 32) × Near Op·inverseRoot y p g ⌝ }
+    requires { ⌜ (8388608 ≤ y) × (y < 16777216) × (p ≤ 1) × (g < 2 ^ 32) × Near Op·inverseRoot 7 3 y p 8 g ⌝ }
     ensures { λ r. ⌜ Reached Op·inverseRoot y (targetOf Op·inverseRoot y p) r 0 ⌝ }
 {
     let q = (g - 8) / 8;

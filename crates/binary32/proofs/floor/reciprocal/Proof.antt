@@ -14,11 +14,11 @@ sub-q c = search needs
 
 -- src/floor.rt:35:36
 mul-t5 : tie.Need-mul-t5
-mul-t5 c = omega (arith, started-low reciprocal (c .args .y) 0 (c .args .g) (c .pre .3))
+mul-t5 c = omega (arith, started-low reciprocal (c .args .y) 0 (c .args .g) (omega arith) (c .pre .3))
 
 -- src/floor.rt:35:15
 sub-t6 : tie.Need-sub-t6
-sub-t6 c = omega (arith, started-low reciprocal (c .args .y) 0 (c .args .g) (c .pre .3))
+sub-t6 c = omega (arith, started-low reciprocal (c .args .y) 0 (c .args .g) (omega arith) (c .pre .3))
 
 -- src/floor.rt:37:15
 step-requires : tie.Need-step-requires

@@ -22,11 +22,11 @@ shl-step c = search needs
 
 -- src/floor.rt:48:33
 mul-step : tie.Need-mul-step
-mul-step c = omega (arith, started-low root (c .args .y) (c .args .p) (c .args .g) (c .pre .4), root-target (c .args .y) (c .args .p) (c .pre .1) (c .pre .2))
+mul-step c = omega (arith, started-low root (c .args .y) (c .args .p) (c .args .g) (c .pre .2) (c .pre .4), root-target (c .args .y) (c .args .p) (c .pre .1) (c .pre .2))
 
 -- src/floor.rt:48:15
 sub-step : tie.Need-sub-step
-sub-step c = omega (arith, started-low root (c .args .y) (c .args .p) (c .args .g) (c .pre .4), root-shifted (c .args .y) (c .args .p) (c .pre .1) (c .pre .2))
+sub-step c = omega (arith, started-low root (c .args .y) (c .args .p) (c .args .g) (c .pre .2) (c .pre .4), root-shifted (c .args .y) (c .args .p) (c .pre .1) (c .pre .2))
 
 -- src/floor.rt:50:17
 mul-step-2 : tie.Need-mul-step-2
