@@ -3,3 +3,4 @@ pub mod Reaching
 pub mod Scales
 pub mod Assembly
 pub mod Specials
+pub mod Results

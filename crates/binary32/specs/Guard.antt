@@ -2,11 +2,13 @@
 use mathlib.Core.Bool.{Bool, cond, not, _&&_, _||_}
 use Prim.Native.Nat.{ℕ, suc, _+_, _*_, _-_, _%_, _^_, min}
 use lib.Dec.{eqb, ltb}
+use Rattle.kinds.specs.Operation.{Op}
 use Rattle.kinds.specs.Rounding.{Mode, away, placeOf}
 use Rattle.kinds.specs.Flag.{overflow, underflow, inexact}
-use Rattle.ieee.specs.Format.{binary32, infinity, leastNormal}
+use Rattle.ieee.specs.Format.{binary32, infinity, leastNormal, magnitudeOf}
 use Rattle.ieee.specs.Answer.{Answer, signed}
-use Rattle.ieee.specs.Guarded.{floorPattern, guardBit, stickyBit, isBeyond}
+use Rattle.ieee.specs.Guarded.{floorPattern, guardBit, stickyBit, isBeyond, Below}
+use Rattle.binary32.specs.Operand.{patternOf}
 use Rattle.binary32.specs.declared.guard.Neighbour.{Neighbour}
 use Rattle.binary32.specs.declared.Rounded.{Rounded}
 
@@ -39,3 +41,7 @@ roundedFrom mode s n =
 -- an answer as the code returns it
 abbrev pub roundedAnswer : Answer → Rounded
 roundedAnswer a = record { bits = a .bits; flags = a .flags }
+
+-- the neighbour is the one below the exact result of the operand with the exponent e and the fraction x
+abbrev pub BelowResult : Op → ℕ → ℕ → Neighbour → Type 0
+BelowResult op e x n = Below binary32 op (magnitudeOf binary32 (patternOf e x)) (n .pattern) (n .half) (n .more) (n .beyond)

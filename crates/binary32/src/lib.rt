@@ -1,4 +1,5 @@
 // The binary32 unit: reciprocal, root and inverse root of a pattern, correctly rounded, with flags.
+mod below;
 mod floor;
 mod guard;
 mod operand;
