@@ -4,3 +4,4 @@ pub mod Scales
 pub mod Assembly
 pub mod Specials
 pub mod Results
+pub mod Answers

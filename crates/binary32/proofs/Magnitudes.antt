@@ -6,8 +6,16 @@ use native.Mathlib.Omega.{arith}
 use lib.Pow.{pow-add}
 use Rattle.ieee.specs.Format.{binary32, magnitudeOf}
 use Rattle.ieee.proofs.Neighbours.{magnitude-fields}
-use Rattle.binary32.specs.Operand.{patternOf, Scaling}
+use lib.Bits.{bitAnd, and-mask}
+use Rattle.binary32.specs.Operand.{patternOf, fieldsOf, PartsOf, Ordinary, Scaling}
+use Rattle.binary32.specs.declared.operand.Parts.{Parts}
 use Rattle.binary32.specs.declared.operand.Scaled.{Scaled}
+
+-- a mask of ones is a remainder
+pub parts-are : (b : ℕ) → b < 2 ^ 32 → PartsOf b (record { sign = b / 2 ^ 31; exponent = bitAnd (b / 2 ^ 23) 255; fraction = bitAnd b 8388607 })
+parts-are b h =
+    rw (and-mask (b / 2 ^ 23) 8, and-mask b 23)
+    (record { is = refl; ranges = record { sign = omega arith; exponent = omega arith; fraction = omega arith } })
 
 -- the fraction x of a subnormal operand, shifted up to y while the exponent has come down from 23 to j
 pub record Shifted (x y j : ℕ) : Type 0 where
@@ -42,18 +50,18 @@ pub shifted-all : (x y j : ℕ) → Shifted x y j → 8388608 ≤ y → Scaling 
 shifted-all x y j s h = record { is = s .is; low = h; high = s .high; small = omega (arith, s .small) }
 
 -- the operand is subnormal where its exponent is 0, and its fraction is its magnitude
-pub subnormal-scaled : (e x : ℕ) (r : Scaled) → e ≡ 0 → x < 8388608 → Scaling x r → Scaling (magnitudeOf binary32 (patternOf e x)) r
-subnormal-scaled e x r z h s = rw (z, magnitude-fields binary32 0 x h) s
+pub subnormal-scaled : (e x : ℕ) (r : Scaled) → e ≡ 0 → Ordinary e x → Scaling x r → Scaling (magnitudeOf binary32 (patternOf e x)) r
+subnormal-scaled e x r z h s = rw (z, magnitude-fields binary32 0 x (h .fraction)) s
 
 -- otherwise the significand has a leading one
-pub normal-scaled : (e x : ℕ) → (e ≡ 0 → ⊥) → e < 255 → x < 8388608
+pub normal-scaled : (e x : ℕ) → (e ≡ 0 → ⊥) → Ordinary e x
     → Scaling (magnitudeOf binary32 (patternOf e x)) (record { significand = 8388608 + x; exponent = e + 22 })
-normal-scaled zero x z b h = absurd (z refl)
-normal-scaled (suc e) x z b h =
+normal-scaled zero x z h = absurd (z refl)
+normal-scaled (suc e) x z h =
     let p : 2 ^ (suc e + 22) ≡ 2 ^ e * 2 ^ 23 = ap (λ (n : ℕ). 2 ^ n) (omega arith) ∙ pow-add 2 e 23 in
     record {
-      is = rw (magnitude-fields binary32 (suc e) x h, p) (omega arith);
+      is = rw (magnitude-fields binary32 (suc e) x (h .fraction), p) (omega arith);
       low = omega arith;
-      high = omega arith;
-      small = omega arith;
+      high = omega (arith, h .fraction);
+      small = omega (arith, h .finite);
     }

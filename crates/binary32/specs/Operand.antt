@@ -18,6 +18,17 @@ pub record Ranges (x : Parts) : Type 0 where
   pub exponent : x .exponent < 256
   pub fraction : x .fraction < 8388608
 
+-- the parts of a pattern
+pub record PartsOf (b : ℕ) (x : Parts) : Type 0 where
+  pub is : x ≡ fieldsOf b
+  pub ranges : Ranges x
+
+-- the fields of a magnitude that is finite and not zero
+pub record Ordinary (e x : ℕ) : Type 0 where
+  pub finite : e < 255
+  pub fraction : x < 8388608
+  pub some : 0 < patternOf e x
+
 -- x × 2^23 is y × 2^j, and y has 24 bits
 pub record Scaling (x : ℕ) (r : Scaled) : Type 0 where
   pub is : x * 2 ^ 23 ≡ r .significand * 2 ^ (r .exponent)

@@ -1,7 +1,6 @@
 // The pattern below the exact result of each operation on a positive finite operand, through the raw unit.
-ghost use Prim.Native.Nat.{_<_};
 ghost use Rattle.kinds.specs.Operation.{reciprocal as Op·reciprocal, root as Op·root, inverseRoot as Op·inverseRoot};
-ghost use Rattle.binary32.specs.Operand.{patternOf};
+ghost use Rattle.binary32.specs.Operand.{Ordinary};
 ghost use Rattle.binary32.specs.Guard.{BelowResult};
 use crate::floor;
 use crate::guard::Neighbour;
@@ -10,7 +9,7 @@ use crate::operand::scale;
 
 // With X = y / 2^23 × 2^e, e = exponent − 149, the reciprocal is 1 / (y / 2^23) × 2^-e.
 pub fn reciprocal(exponent: u32, fraction: u32) -> Neighbour
-    requires { ⌜ (exponent < 255) × (fraction < 8388608) × (0 < patternOf exponent fraction) ⌝ }
+    requires { ⌜ Ordinary exponent fraction ⌝ }
     ensures { λ r. ⌜ BelowResult Op·reciprocal exponent fraction r ⌝ }
 {
     let x = scale(exponent, fraction);
@@ -22,7 +21,7 @@ pub fn reciprocal(exponent: u32, fraction: u32) -> Neighbour
 
 // e is 2h + p. Raised by 256 it is not negative, so that the halving floors: −3 is twice −2 with parity 1.
 pub fn root(exponent: u32, fraction: u32) -> Neighbour
-    requires { ⌜ (exponent < 255) × (fraction < 8388608) × (0 < patternOf exponent fraction) ⌝ }
+    requires { ⌜ Ordinary exponent fraction ⌝ }
     ensures { λ r. ⌜ BelowResult Op·root exponent fraction r ⌝ }
 {
     let x = scale(exponent, fraction);
@@ -36,7 +35,7 @@ pub fn root(exponent: u32, fraction: u32) -> Neighbour
 
 // −e is 2h − p, and 1 / √X is 1 / √(2^p × y / 2^23) × 2^h: the halving rounds up.
 pub fn inverse_root(exponent: u32, fraction: u32) -> Neighbour
-    requires { ⌜ (exponent < 255) × (fraction < 8388608) × (0 < patternOf exponent fraction) ⌝ }
+    requires { ⌜ Ordinary exponent fraction ⌝ }
     ensures { λ r. ⌜ BelowResult Op·inverseRoot exponent fraction r ⌝ }
 {
     let x = scale(exponent, fraction);

@@ -1,8 +1,7 @@
 // A pattern taken apart: sign, exponent and fraction; and a finite operand as a significand and a power of two.
-ghost use mathlib.Core.Path.{_≡_};
-ghost use Prim.Native.Nat.{_+_, _*_, _^_, _<_};
+ghost use Prim.Native.Nat.{_<_};
 ghost use Rattle.ieee.specs.Format.{binary32, magnitudeOf};
-ghost use Rattle.binary32.specs.Operand.{fieldsOf, patternOf, Ranges, Scaling};
+ghost use Rattle.binary32.specs.Operand.{patternOf, PartsOf, Ordinary, Scaling};
 
 pub struct Parts {
     pub sign: u32,
@@ -11,7 +10,7 @@ pub struct Parts {
 }
 
 pub fn fields(bits: u32) -> Parts
-    ensures { λ r. ⌜ r ≡ fieldsOf bits ⌝ }
+    ensures { λ r. ⌜ PartsOf bits r ⌝ }
 {
     Parts {
         sign: bits >> 31,
@@ -27,7 +26,7 @@ pub struct Scaled {
 }
 
 pub fn scale(exponent: u32, fraction: u32) -> Scaled
-    requires { ⌜ (exponent < 255) × (fraction < 8388608) × (0 < patternOf exponent fraction) ⌝ }
+    requires { ⌜ Ordinary exponent fraction ⌝ }
     ensures { λ r. ⌜ Scaling (magnitudeOf binary32 (patternOf exponent fraction)) r ⌝ }
 {
     if exponent == 0 {
