@@ -97,6 +97,7 @@ nearer op y x n a r reached step =
   where
     amount : ℕ
     amount = amountOf op y (a .quotient)
+
     go : (b : Bool) → leb amount (a .left) ≡ b
         → Reached op y x (cond b (record { quotient = a .quotient + 1; left = a .left - amount }) a) n
     go true e =

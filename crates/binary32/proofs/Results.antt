@@ -6,9 +6,10 @@ use native.Mathlib.Omega.{arith}
 use mathlib.Core.Bool.{Bool, not}
 use mathlib.Core.Logic.{by-cases}
 use native.Mathlib.Decide.{decLt}
+use borrow.Author.Tests.{ne-eqb}
 use lib.Dec.{eqb}
 use lib.Pow.{pow-pos}
-use Rattle.kinds.specs.Operation.{Op, reciprocal, root, inverseRoot}
+use Rattle.kinds.specs.Operation.{Op, reciprocal, root, inverseRoot, opOf}
 use Rattle.significand.specs.Steps.{rawOf}
 use Rattle.significand.specs.Distance.{Near, distanceOf}
 use Rattle.significand.proofs.Distance.{distance}
@@ -82,3 +83,13 @@ module _ (e x : ℕ) (s : Scaled) (h : Scaling (magnitudeOf binary32 (patternOf 
   inverse-root-below reached i =
       neighbour-below inverseRoot _ _ _ _ n (scaled-pos _ s h)
       (inverse-guarded _ (s .significand) (s .exponent) (h .is) (h .low) (h .high) (h .small) r reached) i
+
+-- the operation by its number
+pub below-first : (n e x : ℕ) (r : Neighbour) → n ≡ 1 → BelowResult reciprocal e x r → BelowResult (opOf n) e x r
+below-first n e x r p b = rw p b
+
+pub below-second : (n e x : ℕ) (r : Neighbour) → n ≡ 2 → BelowResult root e x r → BelowResult (opOf n) e x r
+below-second n e x r p b = rw p b
+
+pub below-third : {n : ℕ} → (n ≡ 1 → ⊥) → (n ≡ 2 → ⊥) → (e x : ℕ) (r : Neighbour) → BelowResult inverseRoot e x r → BelowResult (opOf n) e x r
+below-third {n} p q e x r b = simp (ne-eqb n 1 p, ne-eqb n 2 q) b

@@ -1,9 +1,9 @@
 -- The tests and the answers of operands that need no arithmetic. Assumes nothing.
-use mathlib.Core.Path.{_≡_, refl, sym, ap, _∙_}
+use mathlib.Core.Path.{_≡_, refl, sym, ap, subst, _∙_}
 use mathlib.Core.Bool.{Bool, true, false, cond, not, _&&_, _||_}
 use mathlib.Core.Logic.{by-cases}
 use Prim.Native.Nat.{ℕ, zero, suc, _+_, _*_, _%_, _^_, _≤_, _<_}
-use native.Mathlib.Decide.{decLt}
+use native.Mathlib.Decide.{decLt, ℕ-discrete}
 use native.Mathlib.Omega.{arith}
 use borrow.Author.Tests.{lt-ltb, le-ltb, le-leb, lt-leb, eq-eqb, ne-eqb}
 use lib.Dec.{eqb, ltb, leb}
@@ -13,7 +13,7 @@ use Rattle.ieee.specs.Format.{binary32, infinity, quietNaN}
 use Rattle.ieee.specs.Answer.{Answer, answer, signed, toNaN, toZero, toInfinity}
 use Rattle.binary32.specs.Operand.{patternOf, Ranges}
 use Rattle.binary32.specs.Guard.{roundedAnswer}
-use Rattle.binary32.specs.Special.{Known, isSpecial, specialTo}
+use Rattle.binary32.specs.Special.{isSpecial, specialTo}
 use Rattle.binary32.specs.declared.operand.Parts.{Parts}
 use Rattle.binary32.specs.declared.Rounded.{Rounded}
 
@@ -26,11 +26,17 @@ module _ (x : Parts) (h : Ranges x) where
       (λ l.
       by-cases (decLt 0 (x .fraction))
       (λ p.
-      rw (eq-eqb (x .exponent) 255 (omega (arith, h)), ne-eqb (x .fraction) 0 (λ e. omega arith),
-      lt-ltb (infinity binary32) (patternOf (x .exponent) (x .fraction)) (omega arith)))
+      rw (
+        eq-eqb (x .exponent) 255 (omega (arith, h)),
+        ne-eqb (x .fraction) 0 (λ e. omega arith),
+        lt-ltb (infinity binary32) (patternOf (x .exponent) (x .fraction)) (omega arith),
+      ))
       (λ p.
-      rw (eq-eqb (x .exponent) 255 (omega (arith, h)), eq-eqb (x .fraction) 0 (omega arith),
-      le-ltb (infinity binary32) (patternOf (x .exponent) (x .fraction)) (omega (arith, h)))))
+      rw (
+        eq-eqb (x .exponent) 255 (omega (arith, h)),
+        eq-eqb (x .fraction) 0 (omega arith),
+        le-ltb (infinity binary32) (patternOf (x .exponent) (x .fraction)) (omega (arith, h)),
+      )))
 
   pub zero-is : eqb (x .exponent) 0 && eqb (x .fraction) 0 ≡ eqb (patternOf (x .exponent) (x .fraction)) 0
   zero-is =
@@ -39,11 +45,17 @@ module _ (x : Parts) (h : Ranges x) where
       (λ l.
       by-cases (decLt 0 (x .fraction))
       (λ p.
-      rw (eq-eqb (x .exponent) 0 (omega arith), ne-eqb (x .fraction) 0 (λ e. omega arith),
-      ne-eqb (patternOf (x .exponent) (x .fraction)) 0 (λ e. omega arith)))
+      rw (
+        eq-eqb (x .exponent) 0 (omega arith),
+        ne-eqb (x .fraction) 0 (λ e. omega arith),
+        ne-eqb (patternOf (x .exponent) (x .fraction)) 0 (λ e. omega arith),
+      ))
       (λ p.
-      rw (eq-eqb (x .exponent) 0 (omega arith), eq-eqb (x .fraction) 0 (omega arith),
-      eq-eqb (patternOf (x .exponent) (x .fraction)) 0 (omega arith))))
+      rw (
+        eq-eqb (x .exponent) 0 (omega arith),
+        eq-eqb (x .fraction) 0 (omega arith),
+        eq-eqb (patternOf (x .exponent) (x .fraction)) 0 (omega arith),
+      )))
 
   top-is : eqb (x .exponent) 255 ≡ leb (infinity binary32) (patternOf (x .exponent) (x .fraction))
   top-is =
@@ -110,19 +122,26 @@ module _ (x : Parts) (h : Ranges x) where
   special-answer n z nan edge nans refusal inner r ez en ea er ee ei e =
       rw (e, ei, er, ea, en, ee, ez) (in-order (opOf n) (eqb n 1) (reciprocal-is n))
 
--- an operation's number is one of three
-pub zero-answer : (n s i b fl : ℕ) → Known n → i ≡ cond (not (eqb n 2)) (infinity binary32) 0 → b ≡ signed binary32 s i
-    → fl ≡ cond (not (eqb n 2)) 2 0 → _≡_ {A = Rounded} (record { bits = b; flags = fl }) (roundedAnswer (toZero binary32 (opOf n) s))
-zero-answer zero s i b fl k p q r = absurd (omega (arith, k))
-zero-answer (suc zero) s i b fl k p q r = rw (q, p, r)
-zero-answer (suc (suc zero)) s i b fl k p q r = rw (q, p, r)
-zero-answer (suc (suc (suc zero))) s i b fl k p q r = rw (q, p, r)
-zero-answer (suc (suc (suc (suc n)))) s i b fl k p q r = absurd (omega (arith, k))
+-- which operation it is, by its number
+op-inverse : (n : ℕ) → (n ≡ 1 → ⊥) → (n ≡ 2 → ⊥) → opOf n ≡ inverseRoot
+op-inverse n p q = simp (ne-eqb n 1 p, ne-eqb n 2 q)
 
-pub infinity-answer : (n s o i b : ℕ) → Known n → o ≡ cond (eqb n 1) s 0 → i ≡ cond (eqb n 2) (infinity binary32) 0 → b ≡ signed binary32 o i
+by-operation : (P : ℕ → Type 0) (n : ℕ) → P 1 → P 2 → ((n ≡ 1 → ⊥) → (n ≡ 2 → ⊥) → P n) → P n
+by-operation P n a b c =
+    by-cases (ℕ-discrete n 1) (λ e. subst P (sym e) a) (λ p. by-cases (ℕ-discrete n 2) (λ e. subst P (sym e) b) (λ q. c p q))
+
+pub zero-answer : (n s i b fl : ℕ) → i ≡ cond (not (eqb n 2)) (infinity binary32) 0 → b ≡ signed binary32 s i
+    → fl ≡ cond (not (eqb n 2)) 2 0 → _≡_ {A = Rounded} (record { bits = b; flags = fl }) (roundedAnswer (toZero binary32 (opOf n) s))
+zero-answer n s i b fl p q r =
+    rw (q, p, r)
+    (by-operation (λ (m : ℕ). _≡_ {A = Rounded} (record { bits = signed binary32 s (cond (not (eqb m 2)) (infinity binary32) 0); flags = cond (not (eqb m 2)) 2 0 })
+    (roundedAnswer (toZero binary32 (opOf m) s))) n refl refl
+    (λ x y. rw (op-inverse n x y, ne-eqb n 2 y)))
+
+pub infinity-answer : (n s o i b : ℕ) → o ≡ cond (eqb n 1) s 0 → i ≡ cond (eqb n 2) (infinity binary32) 0 → b ≡ signed binary32 o i
     → _≡_ {A = Rounded} (record { bits = b; flags = 0 }) (roundedAnswer (toInfinity binary32 (opOf n) s))
-infinity-answer zero s o i b k p q r = absurd (omega (arith, k))
-infinity-answer (suc zero) s o i b k p q r = rw (r, p, q)
-infinity-answer (suc (suc zero)) s o i b k p q r = rw (r, p, q)
-infinity-answer (suc (suc (suc zero))) s o i b k p q r = rw (r, p, q)
-infinity-answer (suc (suc (suc (suc n)))) s o i b k p q r = absurd (omega (arith, k))
+infinity-answer n s o i b p q r =
+    rw (r, p, q)
+    (by-operation (λ (m : ℕ). _≡_ {A = Rounded} (record { bits = signed binary32 (cond (eqb m 1) s 0) (cond (eqb m 2) (infinity binary32) 0); flags = 0 })
+    (roundedAnswer (toInfinity binary32 (opOf m) s))) n refl refl
+    (λ x y. rw (op-inverse n x y, ne-eqb n 1 x, ne-eqb n 2 y)))

@@ -1,7 +1,6 @@
 -- Operands that need no arithmetic, and their answers. Assumes nothing.
-use mathlib.Core.Path.{_≡_}
 use mathlib.Core.Bool.{Bool, cond, not, _&&_, _||_}
-use Prim.Native.Nat.{ℕ, _≤_}
+use Prim.Native.Nat.{ℕ}
 use lib.Dec.{eqb, ltb, leb}
 use Rattle.kinds.specs.Operation.{Op, isReciprocal}
 use Rattle.kinds.specs.Flag.{invalid}
@@ -11,11 +10,6 @@ use Rattle.binary32.specs.Operand.{patternOf}
 use Rattle.binary32.specs.Guard.{roundedAnswer}
 use Rattle.binary32.specs.declared.operand.Parts.{Parts}
 use Rattle.binary32.specs.declared.Rounded.{Rounded}
-
--- an operation's number
-pub record Known (n : ℕ) : Type 0 where
-  pub least : 1 ≤ n
-  pub most : n ≤ 3
 
 abbrev pub isSpecialAt : Op → ℕ → ℕ → Bool
 isSpecialAt op s t = leb (infinity binary32) t || eqb t 0 || eqb s 1 && not (isReciprocal op)

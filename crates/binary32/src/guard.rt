@@ -57,7 +57,10 @@ pub fn round(rounding: Rounding, sign: u32, n: Neighbour) -> Rounded
     ensures { λ r. ⌜ r ≡ roundedFrom (modeOf (rounding .0)) sign n ⌝ }
 {
     let odd = n.pattern % 2 == 1;
-    let t = next_if(goes_away(rounding, sign == 1, odd, n.half, n.more), n.pattern);
+    let t = next_if(
+        goes_away(rounding, sign == 1, odd, n.half, n.more),
+        n.pattern,
+    );
     let inexact = n.half | n.more;
     let overflow = n.beyond | (t == 0x7F80_0000);
     let underflow = (n.pattern < 0x80_0000) & inexact;

@@ -6,11 +6,12 @@ mod operand;
 mod special;
 
 ghost use mathlib.Core.Path.{_≡_};
-ghost use Rattle.kinds.specs.Operation.{reciprocal as Op·reciprocal, root as Op·root, inverseRoot as Op·inverseRoot};
+ghost use Rattle.kinds.specs.Operation.{opOf, reciprocal as Op·reciprocal, root as Op·root, inverseRoot as Op·inverseRoot};
 ghost use Rattle.kinds.specs.Rounding.{modeOf};
 ghost use Rattle.ieee.specs.Format.{binary32};
 ghost use Rattle.ieee.specs.Answer.{answerOf};
 ghost use Rattle.binary32.specs.Guard.{roundedAnswer};
+use below::below;
 use guard::round;
 use kinds::Operation;
 use kinds::Rounding;
@@ -24,32 +25,31 @@ pub struct Rounded {
     pub flags: u8,
 }
 
+// An operation on a pattern. A number that is no operation's or no rounding's counts as the last: whoever calls asks the questions.
+pub fn answer(operation: Operation, rounding: Rounding, bits: u32) -> Rounded
+    ensures { λ r. ⌜ r ≡ roundedAnswer (answerOf binary32 (opOf (operation .0)) (modeOf (rounding .0)) bits) ⌝ }
+{
+    let x = fields(bits);
+    if is_special(operation, x) {
+        return special(operation, x);
+    }
+    round(rounding, x.sign, below(operation, x.exponent, x.fraction))
+}
+
 pub fn reciprocal(rounding: Rounding, bits: u32) -> Rounded
     ensures { λ r. ⌜ r ≡ roundedAnswer (answerOf binary32 Op·reciprocal (modeOf (rounding .0)) bits) ⌝ }
 {
-    let x = fields(bits);
-    if is_special(Operation::RECIPROCAL, x) {
-        return special(Operation::RECIPROCAL, x);
-    }
-    round(rounding, x.sign, below::reciprocal(x.exponent, x.fraction))
+    answer(Operation::RECIPROCAL, rounding, bits)
 }
 
 pub fn root(rounding: Rounding, bits: u32) -> Rounded
     ensures { λ r. ⌜ r ≡ roundedAnswer (answerOf binary32 Op·root (modeOf (rounding .0)) bits) ⌝ }
 {
-    let x = fields(bits);
-    if is_special(Operation::ROOT, x) {
-        return special(Operation::ROOT, x);
-    }
-    round(rounding, x.sign, below::root(x.exponent, x.fraction))
+    answer(Operation::ROOT, rounding, bits)
 }
 
 pub fn inverse_root(rounding: Rounding, bits: u32) -> Rounded
     ensures { λ r. ⌜ r ≡ roundedAnswer (answerOf binary32 Op·inverseRoot (modeOf (rounding .0)) bits) ⌝ }
 {
-    let x = fields(bits);
-    if is_special(Operation::INVERSE_ROOT, x) {
-        return special(Operation::INVERSE_ROOT, x);
-    }
-    round(rounding, x.sign, below::inverse_root(x.exponent, x.fraction))
+    answer(Operation::INVERSE_ROOT, rounding, bits)
 }

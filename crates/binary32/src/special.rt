@@ -8,7 +8,7 @@ ghost use Rattle.ieee.specs.Format.{binary32, infinity};
 ghost use Rattle.ieee.specs.Answer.{toNaN, toZero, toInfinity};
 ghost use Rattle.binary32.specs.Operand.{patternOf, Ranges};
 ghost use Rattle.binary32.specs.Guard.{roundedAnswer};
-ghost use Rattle.binary32.specs.Special.{Known, isSpecial, specialTo, edgeOf};
+ghost use Rattle.binary32.specs.Special.{isSpecial, specialTo, edgeOf};
 use crate::Rounded;
 use crate::guard::flag_if;
 use crate::guard::with_sign;
@@ -17,7 +17,6 @@ use kinds::Flag;
 use kinds::Operation;
 
 pub fn is_special(operation: Operation, x: Parts) -> bool
-    requires { ⌜ Known (operation .0) ⌝ }
     requires { ⌜ Ranges x ⌝ }
     ensures { λ r. ⌜ r ≡ isSpecial (opOf (operation .0)) x ⌝ }
 {
@@ -25,21 +24,27 @@ pub fn is_special(operation: Operation, x: Parts) -> bool
 }
 
 pub fn special(operation: Operation, x: Parts) -> Rounded
-    requires { ⌜ Known (operation .0) ⌝ }
     requires { ⌜ Ranges x ⌝ }
     ensures { λ r. ⌜ r ≡ roundedAnswer (specialTo (opOf (operation .0)) x) ⌝ }
 {
     let reciprocal = operation.0 == Operation::RECIPROCAL.0;
     let refused = (x.sign == 1) & !is_zero(x) & !reciprocal;
-    choose(is_nan(x), at_nan(x), choose(refused, not_a_number(true), at_edge(operation, x)))
+    choose(
+        is_nan(x),
+        at_nan(x),
+        choose(refused, not_a_number(true), at_edge(operation, x)),
+    )
 }
 
 fn at_edge(operation: Operation, x: Parts) -> Rounded
-    requires { ⌜ Known (operation .0) ⌝ }
     requires { ⌜ Ranges x ⌝ }
     ensures { λ r. ⌜ r ≡ edgeOf (opOf (operation .0)) x ⌝ }
 {
-    choose(is_zero(x), at_zero(operation, x.sign), at_infinity(operation, x.sign))
+    choose(
+        is_zero(x),
+        at_zero(operation, x.sign),
+        at_infinity(operation, x.sign),
+    )
 }
 
 fn choose(test: bool, a: Rounded, b: Rounded) -> Rounded
@@ -81,7 +86,7 @@ fn at_nan(x: Parts) -> Rounded
 }
 
 fn at_zero(operation: Operation, sign: u32) -> Rounded
-    requires { ⌜ (Known (operation .0)) × (sign < 2) ⌝ }
+    requires { ⌜ sign < 2 ⌝ }
     ensures { λ r. ⌜ r ≡ roundedAnswer (toZero binary32 (opOf (operation .0)) sign) ⌝ }
 {
     let root = operation.0 == Operation::ROOT.0;
@@ -92,7 +97,7 @@ fn at_zero(operation: Operation, sign: u32) -> Rounded
 }
 
 fn at_infinity(operation: Operation, sign: u32) -> Rounded
-    requires { ⌜ (Known (operation .0)) × (sign < 2) ⌝ }
+    requires { ⌜ sign < 2 ⌝ }
     ensures { λ r. ⌜ r ≡ roundedAnswer (toInfinity binary32 (opOf (operation .0)) sign) ⌝ }
 {
     let reciprocal = operation.0 == Operation::RECIPROCAL.0;

@@ -1,10 +1,8 @@
+-- `binary32::guard::with_sign` meets its contract: a shift and an or of bits that do not overlap are a product and a sum. Assumes nothing.
 use Rattle.binary32.proofs.Assembly.{with-sign-is}
 use Rattle.binary32.proofs.guard.with_sign.Statement.{statement}
 use Rattle.binary32.proofs.guard.with_sign.Tie as tie
-use Rattle.binary32.proofs.guard.with_sign.Reads as reads
-use Rattle.binary32.proofs.guard.with_sign.Lts as lts
 
--- src/guard.rt:85:1
 returns : tie.Need-returns
 returns c = search with-sign-is
 

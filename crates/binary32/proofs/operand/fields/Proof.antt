@@ -1,4 +1,4 @@
--- `operand::fields` meets its contract: a mask of ones is a remainder. Assumes nothing.
+-- `binary32::operand::fields` meets its contract: a mask of ones is a remainder. Assumes nothing.
 use Rattle.binary32.proofs.Magnitudes.{parts-are}
 use Rattle.binary32.proofs.operand.fields.Statement.{statement}
 use Rattle.binary32.proofs.operand.fields.Tie as tie

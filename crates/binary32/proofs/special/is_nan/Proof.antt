@@ -1,10 +1,8 @@
+-- `binary32::special::is_nan` meets its contract: a test of the fields is one of the pattern. Assumes nothing.
 use Rattle.binary32.proofs.Specials.{nan-is}
 use Rattle.binary32.proofs.special.is_nan.Statement.{statement}
 use Rattle.binary32.proofs.special.is_nan.Tie as tie
-use Rattle.binary32.proofs.special.is_nan.Reads as reads
-use Rattle.binary32.proofs.special.is_nan.Lts as lts
 
--- src/special.rt:46:1
 returns : tie.Need-returns
 returns c = search nan-is
 

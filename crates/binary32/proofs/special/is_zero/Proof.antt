@@ -1,10 +1,8 @@
+-- `binary32::special::is_zero` meets its contract: a test of the fields is one of the pattern. Assumes nothing.
 use Rattle.binary32.proofs.Specials.{zero-is}
 use Rattle.binary32.proofs.special.is_zero.Statement.{statement}
 use Rattle.binary32.proofs.special.is_zero.Tie as tie
-use Rattle.binary32.proofs.special.is_zero.Reads as reads
-use Rattle.binary32.proofs.special.is_zero.Lts as lts
 
--- src/special.rt:53:1
 returns : tie.Need-returns
 returns c = search zero-is
 
