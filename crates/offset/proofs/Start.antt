@@ -136,8 +136,3 @@ module _ (n q : ℕ) (sizes : Sizes n q) where
         high-enough n q low (2 ^ shift) (n * low / 2 ^ shift) (sizes .least) (lt-mul-div-succ (n * low) (pow-pos shift))
         (fine n q low (2 ^ shift) 0 (inverse .least) (inverse .below) (sizes .ratio))
         (inverse .above)
-
--- one step up
-pub stepped : (n q t left : ℕ) → t * t * q + left ≡ 4 * (n * n) → 2 * (t * q) + q ≤ left → 4 * (n * n) < (t + 2) * (t + 2) * q
-    → DoubledOver n q (t + 1) (left - (2 * (t * q) + q))
-stepped n q t left is next above = record { whole = omega arith; last = omega arith }

@@ -1,4 +1,5 @@
 -- `offset::inverse_of` meets its contract: the raw answer lies within its distance, which is taken off. Assumes nothing.
+use native.Mathlib.Omega.{arith}
 use borrow.Author.Needs.{needs}
 use Rattle.offset.proofs.Significands.{zeros-most, zeros-fit, zeros-below, significand-least, significand-most, parity-most, answer-above, inverse-is}
 use Rattle.offset.proofs.inverse_of.Statement.{statement}
@@ -23,7 +24,9 @@ cast-t6 : tie.Need-cast-t6
 cast-t6 c = search needs
 
 sub-t7 : tie.Need-sub-t7
-sub-t7 c = search answer-above
+sub-t7 c =
+    let a = c .before in
+    omega (arith, answer-above (a .args .q) (a .pre .0) (a .pre .1) (c .inverse-root .result) (c .inverse-root .ensures))
 
 add-t10 : tie.Need-add-t10
 add-t10 c = search needs
