@@ -178,3 +178,17 @@ module _ (rounding : ℕ) (m out : List ℕ) (r : ℕ) (e : r ≡ listRefusal ro
   pub given-kept : (after : List ℕ) → r ≡ 0 → after ≡ splice 0 (listBytes (modeOf rounding) m) out → after ≡ bufferAfter rounding m out
   unfolding bufferAfter
   given-kept after z f = cc (e, eq-eqb r 0 z)
+
+-- what a caller learns from a reply without a "no"
+module _ (rounding : ℕ) (m : List ℕ) (room : ℕ) (r : Listed) (e : r ≡ listReply rounding m room) (z : r .refusal ≡ 0) where
+  told-none : listRefusal rounding m room ≡ 0
+  told-none = sym (ap (λ (x : Listed). x .refusal) e) ∙ z
+
+  pub told-sixteen : 16 ≤ length m
+  told-sixteen = sixteen-of rounding m room told-none
+
+  pub told-sizes : (t : Trailer) → t ≡ trailerOf m → Sizes (t .width) (t .depth)
+  told-sizes = sizes-of rounding m room told-none
+
+  pub told-room : (t : Trailer) (n : ℕ) → t ≡ trailerOf m → n ≡ room → 12 * ((t .width - 2) * (t .depth - 2)) ≤ n
+  told-room t n f g = omega (arith, held-of rounding m room told-none t f)
