@@ -3,3 +3,4 @@ pub mod Replies
 pub mod Sticky
 pub mod Rounded
 pub mod Listed
+pub mod Bracket

@@ -3,3 +3,4 @@ pub mod Raw
 pub mod Binary32
 pub mod List
 pub mod Packed
+pub mod Bracket
