@@ -4,3 +4,4 @@ pub mod Sticky
 pub mod Rounded
 pub mod Listed
 pub mod Bracket
+pub mod Table

@@ -4,3 +4,4 @@ pub mod Binary32
 pub mod List
 pub mod Packed
 pub mod Bracket
+pub mod Table
