@@ -1,7 +1,5 @@
 // The raw unit at k = 7: the reciprocal, the root and the inverse root of a significand by a table, a short series and one product.
 // The functions follow the numbered steps; an answer g stands for g / 2^28.
-mod tables;
-
 ghost use mathlib.Core.Path.{_≡_};
 ghost use Prim.Native.Nat.{_+_, _*_, _/_, _≤_, _<_, _^_};
 ghost use Rattle.kinds.specs.Operation.{Op, reciprocal as Op·reciprocal, root as Op·root, inverseRoot as Op·inverseRoot};
@@ -10,7 +8,7 @@ ghost use Rattle.raw.specs.Parts.{Reduced, Products};
 
 // i and R of a significand, and the sign and the magnitude of its reduction.
 struct Reduction {
-    index: usize,
+    index: u8,
     factor: u64,
     positive: bool,
     magnitude: u64,
@@ -21,7 +19,7 @@ fn reduce(y: u32) -> Reduction
     requires { ⌜ (8388608 ≤ y) × (y < 16777216) ⌝ }
     ensures { λ r. ⌜ Reduced y r ⌝ }
 {
-    let index = (y >> 16) as usize;
+    let index = (y >> 16) as u8;
     let factor = tables::factor(index);
     let u = (y as u64) * factor;
     Reduction {
@@ -140,7 +138,7 @@ pub fn root(y: u32, p: u32) -> u32
 {
     let d = reduce(y);
     let b = root_series(d.positive, d.magnitude);
-    scaled(tables::root(d.index, p as usize), b)
+    scaled(tables::root(d.index, p as u8), b)
 }
 
 // The inverse root of Y, or of 2Y where p is 1.
@@ -150,5 +148,5 @@ pub fn inverse_root(y: u32, p: u32) -> u32
 {
     let d = reduce(y);
     let b = inverse_root_series(d.positive, d.magnitude);
-    scaled(tables::inverse_root(d.index, p as usize), b)
+    scaled(tables::inverse_root(d.index, p as u8), b)
 }

@@ -1,7 +1,6 @@
 -- `raw::inverse_root` meets its contract. Assumes nothing.
-use Rattle.raw.proofs.Bounds.{multiplier-small}
-use native.Mathlib.Omega.{arith}
 use Rattle.raw.proofs.Parts.{raw-is}
+use Rattle.raw.proofs.Bounds.{multiplier-small}
 use borrow.Author.Needs.{needs}
 use Rattle.raw.proofs.inverse_root.Statement.{statement}
 use Rattle.raw.proofs.inverse_root.Tie as tie
@@ -11,6 +10,9 @@ reduce-requires c κs = search needs
 
 inverse-root-series-requires : tie.Need-inverse-root-series-requires
 inverse-root-series-requires c κs = search needs
+
+cast-inverse-root : tie.Need-cast-inverse-root
+cast-inverse-root c = search needs
 
 inverse-root-requires : tie.Need-inverse-root-requires
 inverse-root-requires c κs = search needs
@@ -27,6 +29,7 @@ inverse-root-spec =
     (tie.spec
     reduce-requires
     inverse-root-series-requires
+    cast-inverse-root
     inverse-root-requires
     scaled-requires
     returns)

@@ -1,7 +1,6 @@
 -- `raw::root` meets its contract. Assumes nothing.
-use Rattle.raw.proofs.Bounds.{multiplier-small}
-use native.Mathlib.Omega.{arith}
 use Rattle.raw.proofs.Parts.{raw-is}
+use Rattle.raw.proofs.Bounds.{multiplier-small}
 use borrow.Author.Needs.{needs}
 use Rattle.raw.proofs.root.Statement.{statement}
 use Rattle.raw.proofs.root.Tie as tie
@@ -11,6 +10,9 @@ reduce-requires c κs = search needs
 
 root-series-requires : tie.Need-root-series-requires
 root-series-requires c κs = search needs
+
+cast-root : tie.Need-cast-root
+cast-root c = search needs
 
 root-requires : tie.Need-root-requires
 root-requires c κs = search needs
@@ -23,4 +25,5 @@ returns c = search raw-is
 
 pub root-spec : {M : Type 1} → statement M
 root-spec =
-    tie.close (tie.spec reduce-requires root-series-requires root-requires scaled-requires returns)
+    tie.close
+    (tie.spec reduce-requires root-series-requires cast-root root-requires scaled-requires returns)
