@@ -21,7 +21,8 @@ use Rattle.offset.specs.Offset.{squaredLength, roundedOver, offsetOf}
 use Rattle.offset.specs.Inverse.{Ranges}
 use Rattle.cutter.specs.Map.{heightAt, acrossAt, alongAt}
 use Rattle.cutter.specs.Centre.{centreOf, pointAt, recordBytes}
-use Rattle.cutter.specs.Asked.{Sizes, Steps, Inner}
+use Rattle.cutter.specs.Asked.{Sizes, Steps}
+use Rattle.cutter.specs.Map.{Inner}
 use Rattle.cutter.specs.Normal.{NormalOf, Measured, offsetParts, offsetsOf, Short, wordsBytes}
 use Rattle.cutter.specs.declared.heights.Normal.{Normal}
 use Rattle.cutter.specs.declared.points.Offsets.{Offsets}
@@ -142,9 +143,9 @@ module _ (mode : Mode) (m : List ℕ) (w c q step radius : ℕ) (n : Normal) whe
       let l : n .squared ≡ squaredLength (acrossAt m w c q) (alongAt m w c q) step = squared-is f g in
       let height : signed u ≡ heightAt m w c q = unfold heightAt in ap signed eu in
       let ox : withSign (o .x .negative) (o .x .magnitude) ≡ offsetOf mode (negℤ (acrossAt m w c q)) radius (n .squared) =
-          of-x o eo ∙ offset-is mode (negℤ (acrossAt m w c q)) (n .x) radius (n .squared) (f .x) in
+      of-x o eo ∙ offset-is mode (negℤ (acrossAt m w c q)) (n .x) radius (n .squared) (f .x) in
       let oy : withSign (o .y .negative) (o .y .magnitude) ≡ offsetOf mode (negℤ (alongAt m w c q)) radius (n .squared) =
-          of-y o eo ∙ offset-is mode (negℤ (alongAt m w c q)) (n .y) radius (n .squared) (f .y) in
+      of-y o eo ∙ offset-is mode (negℤ (alongAt m w c q)) (n .y) radius (n .squared) (f .y) in
       let oz : withSign (o .z .negative) (o .z .magnitude) ≡ offsetOf mode (pos (2 * step)) radius (n .squared) = of-z o eo in
       cc
 

@@ -17,7 +17,8 @@ use Rattle.words.proofs.Differences.{either}
 use Rattle.cutter.specs.Map.{widthOf, depthOf, stepOf, radiusOf}
 use Rattle.cutter.specs.Centre.{Centre, centreOf, pointAt, recordBytes}
 use Rattle.cutter.specs.List.{countOf, centreAt, recordAt}
-use Rattle.cutter.specs.Asked.{trailerOf, Sizes, Ready, Inner}
+use Rattle.cutter.specs.Asked.{trailerOf, Sizes, Ready}
+use Rattle.cutter.specs.Map.{Inner}
 use Rattle.cutter.specs.Reply.{placeOf, nextOf}
 use Rattle.cutter.specs.declared.Place.{Place}
 use Rattle.cutter.specs.declared.trailer.Trailer.{Trailer}
@@ -28,15 +29,17 @@ use Rattle.cutter.specs.declared.trailer.Trailer.{Trailer}
 module _ (n k : ℕ) (some : 0 < k) where
   next-column : n % k + 1 < k → ((n + 1) % k ≡ n % k + 1) × ((n + 1) / k ≡ n / k)
   next-column h =
-      let e : n + 1 ≡ n % k + 1 + n / k * k = omega (arith, div-add-mod' n k) in
-      ( ap (λ (x : ℕ). x % k) e ∙ add-mul-mod-self-right (n % k + 1) (n / k) k ∙ mod-eq-of-lt h,
-        ap (λ (x : ℕ). x / k) e ∙ add-mul-div-right (n % k + 1) (n / k) some ∙ ap (λ (x : ℕ). x + n / k) (div-eq-of-lt h) ∙ zero-add (n / k))
+      let e : n + 1 ≡ n % k + 1 + n / k * k = omega (arith, div-add-mod' n k) in (
+        ap (λ (x : ℕ). x % k) e ∙ add-mul-mod-self-right (n % k + 1) (n / k) k ∙ mod-eq-of-lt h,
+        ap (λ (x : ℕ). x / k) e ∙ add-mul-div-right (n % k + 1) (n / k) some ∙ ap (λ (x : ℕ). x + n / k) (div-eq-of-lt h) ∙ zero-add (n / k),
+      )
 
   next-row : k ≤ n % k + 1 → ((n + 1) % k ≡ 0) × ((n + 1) / k ≡ n / k + 1)
   next-row h =
-      let e : n + 1 ≡ 0 + (n / k + 1) * k = omega (arith, div-add-mod' n k, mod-lt n some) in
-      ( ap (λ (x : ℕ). x % k) e ∙ add-mul-mod-self-right 0 (n / k + 1) k ∙ mod-eq-of-lt some,
-        ap (λ (x : ℕ). x / k) e ∙ add-mul-div-right 0 (n / k + 1) some ∙ ap (λ (x : ℕ). x + (n / k + 1)) (div-eq-of-lt some) ∙ zero-add (n / k + 1))
+      let e : n + 1 ≡ 0 + (n / k + 1) * k = omega (arith, div-add-mod' n k, mod-lt n some) in (
+        ap (λ (x : ℕ). x % k) e ∙ add-mul-mod-self-right 0 (n / k + 1) k ∙ mod-eq-of-lt some,
+        ap (λ (x : ℕ). x / k) e ∙ add-mul-div-right 0 (n / k + 1) some ∙ ap (λ (x : ℕ). x + (n / k + 1)) (div-eq-of-lt some) ∙ zero-add (n / k + 1),
+      )
 
 pub next-is : (w n : ℕ) (p r : Place) → 3 ≤ w → p ≡ placeOf w n → r ≡ nextOf w p → r ≡ placeOf w (n + 1)
 unfolding placeOf nextOf

@@ -14,7 +14,8 @@ use Rattle.words.specs.Parts.{partsOf}
 use Rattle.words.specs.declared.Signed.{Signed}
 use Rattle.words.proofs.Differences.{signed-raised, within-raised, diff-sub, diff-eq, diff-abs, abs-neg}
 use Rattle.cutter.specs.Map.{heightAt, acrossAt, alongAt}
-use Rattle.cutter.specs.Asked.{Heights, Sizes, Inner}
+use Rattle.cutter.specs.Asked.{Heights, Sizes}
+use Rattle.cutter.specs.Map.{Inner}
 use Rattle.cutter.specs.Normal.{NormalOf}
 use Rattle.cutter.proofs.Questions.{size-most}
 
@@ -33,9 +34,10 @@ module _ (m : List ℕ) (n i j u v a b : ℕ) (s : Signed) where
       → (subℕ a b ≡ signed (wordAt m (4 * i)) -ℤ signed (wordAt m (4 * j))) × (natAbs (subℕ a b) ≤ 100000)
   slope-diff hs hi hj eu hu ev hv ea eb =
       let x = raised-height m n i u a hs hi eu hu ea in
-      let y = raised-height m n j v b hs hj ev hv eb in
-      ( diff-eq a b (a + 50000) (50000 + b) (omega arith) ∙ sym (diff-sub a 50000 b 50000) ∙ ap₂ _-ℤ_ (sym (x .1)) (sym (y .1)),
-        omega (arith, diff-abs a b))
+      let y = raised-height m n j v b hs hj ev hv eb in (
+        diff-eq a b (a + 50000) (50000 + b) (omega arith) ∙ sym (diff-sub a 50000 b 50000) ∙ ap₂ _-ℤ_ (sym (x .1)) (sym (y .1)),
+        omega (arith, diff-abs a b),
+      )
 
   pub slope-is : Heights m n → i < n → j < n
       → u ≡ wordAt m (4 * i) → u < 4294967296 → v ≡ wordAt m (4 * j) → v < 4294967296
@@ -54,9 +56,10 @@ module _ (m : List ℕ) (n i j u v a b : ℕ) (s : Signed) where
 
 module _ (w d c q : ℕ) where
   pub around : Inner w d c q → (w ≤ q * w + c) × (q * w + c + w < w * d)
-  around h =
-      ( omega (arith, mul-le-mul-right w (h .above)),
-        omega (arith, mul-le-mul-right w (h .below), h .right, suc-mul (suc q) w, suc-mul q w, mul-comm w d))
+  around h = (
+    omega (arith, mul-le-mul-right w (h .above)),
+    omega (arith, mul-le-mul-right w (h .below), h .right, suc-mul (suc q) w, suc-mul q w, mul-comm w d),
+  )
 
   pub line-fits : Sizes w d → Inner w d c q → Fits w64 (q * w)
   line-fits s h = omega (arith, around h, size-most w d s)

@@ -112,11 +112,11 @@ trailer-put t at u v l l₁ l₂ l₃ l₄ h s e₁ e₂ eu e₃ ev e₄ =
     let b : List ℕ = halfBytes (t .width) ++ halfBytes (t .depth) in
     let c : List ℕ = halfBytes (t .step) ++ halfBytes (t .radius) in
     let p : l₂ ≡ splice at a l =
-        e₂ ∙ ap (splice (at + 4) (wordBytes at)) e₁ ∙ splice-splice at cut1 (wordBytes at) l (omega arith) in
+    e₂ ∙ ap (splice (at + 4) (wordBytes at)) e₁ ∙ splice-splice at cut1 (wordBytes at) l (omega arith) in
     let q : l₃ ≡ splice at (a ++ b) l =
-        e₃
-        ∙ ap₂ (splice (at + 8)) (ap wordBytes eu ∙ pair-bytes (t .width) (t .depth) (s .width) (s .depth)) p
-        ∙ splice-splice at a b l (omega arith) in
+    e₃
+    ∙ ap₂ (splice (at + 8)) (ap wordBytes eu ∙ pair-bytes (t .width) (t .depth) (s .width) (s .depth)) p
+    ∙ splice-splice at a b l (omega arith) in
     e₄
     ∙ ap₂ (splice (at + 12)) (ap wordBytes ev ∙ pair-bytes (t .step) (t .radius) (s .step) (s .radius)) q
     ∙ splice-splice at (a ++ b) c l (omega arith)
@@ -142,7 +142,7 @@ length-of m t e = cc
 pub list-put : (rounding : ℕ) (m : List ℕ) (t : Trailer) (l l₁ l₂ : List ℕ) → listRefusal rounding m (length l) ≡ 0 → t ≡ trailerOf m
     → l₁ ≡ splice 0 (joined (recordAt (modeOf rounding) m) (countOf (t .width) (t .depth))) l
     → l₂ ≡ splice (12 * ((t .width - 2) * (t .depth - 2)))
-      (trailerBytes (12 * ((t .width - 2) * (t .depth - 2))) (t .width) (t .depth) (t .step) (t .radius)) l₁
+    (trailerBytes (12 * ((t .width - 2) * (t .depth - 2))) (t .width) (t .depth) (t .step) (t .radius)) l₁
     → l₂ ≡ splice 0 (listBytes (modeOf rounding) m) l
 unfolding listBytes trailerOf
 list-put rounding m t l l₁ l₂ z e e₁ e₂ =

@@ -52,13 +52,6 @@ pub record Ready (m : List ℕ) (t : Trailer) : Type 0 where
   pub steps : Steps (t .step) (t .radius)
   pub heights : Heights m (t .width * t .depth)
 
--- the point at column c and row q of a w × d map has four neighbours
-pub record Inner (w d c q : ℕ) : Type 0 where
-  pub left : 1 ≤ c
-  pub right : c + 1 < w
-  pub above : 1 ≤ q
-  pub below : q + 1 < d
-
 -- questions 9 to 11
 unfoldable pub heightsRefusal : List ℕ → ℕ → ℕ
 heightsRefusal m room =

@@ -6,7 +6,8 @@ ghost use Rattle.words.specs.Word.{wordAt};
 ghost use Rattle.words.specs.Signed.{signed};
 ghost use Rattle.words.specs.Parts.{partsOf};
 ghost use Rattle.cutter.specs.Map.{acrossAt, alongAt};
-ghost use Rattle.cutter.specs.Asked.{Heights, Ready, Inner};
+ghost use Rattle.cutter.specs.Asked.{Heights, Ready};
+ghost use Rattle.cutter.specs.Map.{Inner};
 ghost use Rattle.cutter.specs.Normal.{NormalOf, Measured};
 use crate::trailer::Trailer;
 use words::Signed;
@@ -29,7 +30,10 @@ fn slope(map: &[u8], i: usize, j: usize, count: usize) -> Signed
     requires { ⌜ Heights (now map) count ⌝ }
     ensures { λ r. ⌜ (r ≡ partsOf (signed (wordAt (now (map .entry)) (4 * i)) -ℤ signed (wordAt (now (map .entry)) (4 * j)))) × (r .magnitude ≤ 100000) ⌝ }
 {
-    difference(raised(height_word(map, i, count)), raised(height_word(map, j, count)))
+    difference(
+        raised(height_word(map, i, count)),
+        raised(height_word(map, j, count)),
+    )
 }
 
 // The normal by its first two components, −dx and −dy, and its squared length.

@@ -102,6 +102,10 @@ fn put_trailer(out: &mut [u8], at: usize, trailer: Trailer)
 {
     put_four(out, at, *b"CUT1");
     put_word(out, at + 4, at as u64);
-    put_word(out, at + 8, pair(trailer.width as u64, trailer.depth as u64));
+    put_word(
+        out,
+        at + 8,
+        pair(trailer.width as u64, trailer.depth as u64),
+    );
     put_word(out, at + 12, pair(trailer.step, trailer.radius));
 }

@@ -6,7 +6,8 @@ ghost use Rattle.kinds.specs.Rounding.{modeOf};
 ghost use Rattle.words.specs.Splice.{splice};
 ghost use Rattle.offset.specs.Inverse.{Ranges, InverseOf};
 ghost use Rattle.cutter.specs.Centre.{centreOf, pointAt, recordBytes};
-ghost use Rattle.cutter.specs.Asked.{Ready, Inner, Steps};
+ghost use Rattle.cutter.specs.Map.{Inner};
+ghost use Rattle.cutter.specs.Asked.{Ready, Steps};
 ghost use Rattle.cutter.specs.Normal.{Measured, offsetParts, offsetsOf, Short, wordsBytes};
 use crate::heights::Normal;
 use crate::heights::height_word;
@@ -36,11 +37,24 @@ pub struct Words {
 }
 
 // component × radius over the normal's length, rounded.
-fn offset_of(rounding: Rounding, component: Signed, radius: u64, squared: u64, inverse: Inverse) -> Signed
+fn offset_of(
+    rounding: Rounding,
+    component: Signed,
+    radius: u64,
+    squared: u64,
+    inverse: Inverse,
+) -> Signed
     requires { ⌜ Ranges (component .magnitude) radius squared × InverseOf squared (inverse .low) (inverse .shift) ⌝ }
     ensures { λ r. ⌜ (r ≡ offsetParts (modeOf (rounding .0)) component radius squared) × (r .magnitude ≤ radius) ⌝ }
 {
-    let magnitude = rounded_over(rounding, component.negative, component.magnitude, radius, squared, inverse);
+    let magnitude = rounded_over(
+        rounding,
+        component.negative,
+        component.magnitude,
+        radius,
+        squared,
+        inverse,
+    );
     Signed {
         negative: component.negative,
         magnitude,
@@ -74,7 +88,11 @@ fn centre(rounding: Rounding, map: &[u8], trailer: Trailer, column: usize, row: 
     let step = trailer.step;
     let normal = normal_at(map, trailer, column, row);
     let o = offsets_of(rounding, normal, step, trailer.radius);
-    let height = height_word(map, row * trailer.width + column, trailer.width * trailer.depth);
+    let height = height_word(
+        map,
+        row * trailer.width + column,
+        trailer.width * trailer.depth,
+    );
     Words {
         x: moved((column as u64) * step, o.x),
         y: moved((row as u64) * step, o.y),
@@ -92,7 +110,15 @@ fn put_words(out: &mut [u8], at: usize, words: Words)
 }
 
 // Puts the record of an inner point over the bytes from `at` on.
-pub fn put_point(rounding: Rounding, map: &[u8], out: &mut [u8], trailer: Trailer, column: usize, row: usize, at: usize)
+pub fn put_point(
+    rounding: Rounding,
+    map: &[u8],
+    out: &mut [u8],
+    trailer: Trailer,
+    column: usize,
+    row: usize,
+    at: usize,
+)
     requires { ⌜ Ready (now map) trailer ⌝ }
     requires { ⌜ Inner (trailer .width) (trailer .depth) column row ⌝ }
     requires { ⌜ at + 12 ≤ length (now out) ⌝ }
