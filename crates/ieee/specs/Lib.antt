@@ -3,3 +3,4 @@ pub mod Rounded
 pub mod Answer
 pub mod Call
 pub mod Agree
+pub mod Guarded

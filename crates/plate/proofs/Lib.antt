@@ -1,3 +1,5 @@
 pub mod Questions
 pub mod Replies
 pub mod Sticky
+pub mod Rounded
+pub mod Listed

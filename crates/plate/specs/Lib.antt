@@ -1,3 +1,5 @@
-pub mod Raw
-pub mod Packed
 pub mod Status
+pub mod Raw
+pub mod Binary32
+pub mod List
+pub mod Packed

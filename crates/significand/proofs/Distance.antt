@@ -1,15 +1,15 @@
 -- THE DISTANCES. For every significand y, parity p and operation, the raw answer g is less than 12 (reciprocal) or 8 (both roots) away from 2^(4k)
 -- times the exact value, for every digit size k from 7 up and any number t of bits below the three digits. Assumes nothing.
-use mathlib.Core.Path.{_≡_, subst, sym}
+use mathlib.Core.Path.{subst, sym}
 use mathlib.Core.Bool.{Bool}
 use mathlib.Core.List.{[], _∷_}
-use Prim.Native.Nat.{ℕ, _+_, _*_, _-_, _/_, _^_, _≤_, _<_}
+use Prim.Native.Nat.{ℕ, _+_, _*_, _-_, _^_, _≤_, _<_}
 use native.Mathlib.Nat.{mul-sub}
 use native.Mathlib.Omega.{arith}
 use Rattle.kinds.specs.Operation.{Op, reciprocal, root, inverseRoot}
 use Rattle.numbers.proofs.Exponents.{power-of}
 use Rattle.significand.specs.Steps.{indexOf, factorOf, signOf, reducedOf, seriesOf, multiplierOf, rawOf}
-use Rattle.significand.specs.Distance.{Significand, Under, Over, Near, distanceOf}
+use Rattle.significand.specs.Distance.{Significand, Over, Near, distanceOf}
 use Rattle.significand.proofs.Close.{Close, series-close}
 use Rattle.significand.proofs.Scale.{whole-is, whole-least, over-least, under-most, under-less, over-more}
 use Rattle.significand.proofs.General.{reachOf, general}
@@ -31,12 +31,14 @@ module _ (op : Op) (k t y p : ℕ) (h : 7 ≤ k) (e : p ≤ 1) (Y : Significand 
   abbrev b : ℕ
   b = seriesOf k op s a
 
+  -- b is close to the exact series of y R
   close : Close op (2 ^ (4 * k)) (2 ^ t) (y * r) b
   close =
       subst (λ (n : ℕ). Close op n (2 ^ t) (y * r) b) (sym (whole-is k))
       (series-close op s (pointOf k op s a) (2 ^ t) (y * r) (reduced k t y h Y .from) (reduced k t y h Y .upto)
       (summed k a h (reduced-small k t y h Y) op s))
 
+  -- so g is as near as the general law says
   within : Near op k t y p (reachOf op) (rawOf k t op y p)
   unfolding rawOf
   within =
@@ -53,6 +55,7 @@ module _ (op : Op) (k t y p : ℕ) (h : 7 ≤ k) (e : p ≤ 1) (Y : Significand 
   abbrev g : ℕ
   g = rawOf k t op y p
 
+  -- THE THEOREM: g is less than 12, 8 and 8 away
   pub distance : Near op k t y p (distanceOf op) (rawOf k t op y p)
   distance =
       let near : Near op k t y p (reachOf op) g = within op k t y p h e Y in

@@ -3,7 +3,7 @@
 use mathlib.Core.Path.{_≡_, ap}
 use mathlib.Core.List.{[], _∷_}
 use Prim.Native.Nat.{ℕ, _+_, _*_, _-_, _/_, _^_, _≤_, _<_}
-use native.Mathlib.Nat.{div-mul-le-self, lt-div-mul-add, mul-le-mul-left, mul-sub, mul-comm}
+use native.Mathlib.Nat.{div-mul-le-self, lt-div-mul-add, mul-sub}
 use native.Mathlib.Omega.{arith}
 use lib.Pow.{pow-pos}
 use Rattle.kinds.specs.Operation.{Op, reciprocal, root, inverseRoot}
@@ -87,26 +87,28 @@ module _ (k t y r p M b : ℕ) (h : 7 ≤ k) (e : p ≤ 1) (Y : Significand k t 
   F : Floored (2 ^ (4 * k)) M b g
   F = record { low = div-mul-le-self (M * b) (2 ^ (4 * k)); high = lt-div-mul-add (pow-pos (4 * k)) }
 
+  -- g less its reach is under the exact value, and g more its reach is over it
   under : (op : Op) → Multiplies op k r p M → Close op (2 ^ (4 * k)) (2 ^ t) (y * r) b → Under op k m y p (g - reachOf op)
   under reciprocal is C =
-      omega (arith, recip-under (2 ^ k) (2 ^ (4 * k)) (2 ^ t) (2 ^ m) (2 ^ p) y r M b g K F (recip-twice k r p M h is) C, quotient-scale k m, mul-sub y g 12, K .significand, pow-pos (4 * k + m))
+      omega (arith, recip-under K F (recip-twice k r p M h is) C, quotient-scale k m, mul-sub y g 12, K .significand, pow-pos (4 * k + m))
   under root near C =
-      rw square-scale (root-under (2 ^ k) (2 ^ (4 * k)) (2 ^ t) (2 ^ m) (2 ^ p) y r M b g K F (root-low k r p M h near) (root-high k r p M h near) C)
+      rw square-scale (root-under K F (root-low k r p M h near) (root-high k r p M h near) C)
   under inverseRoot near C =
-      rw square-scale (omega (arith, inverse-under (2 ^ k) (2 ^ (4 * k)) (2 ^ t) (2 ^ m) (2 ^ p) y r M b g K F (inverse-low k r p M h near) (inverse-high k r p M h near) C))
+      rw square-scale (omega (arith, inverse-under K F (inverse-low k r p M h near) (inverse-high k r p M h near) C))
 
   over : (op : Op) → Multiplies op k r p M → Close op (2 ^ (4 * k)) (2 ^ t) (y * r) b → Over op k m y p (g + reachOf op)
-  over reciprocal is C = rw quotient-scale (recip-over (2 ^ k) (2 ^ (4 * k)) (2 ^ t) (2 ^ m) (2 ^ p) y r M b g K F (recip-twice k r p M h is) C)
+  over reciprocal is C = rw quotient-scale (recip-over K F (recip-twice k r p M h is) C)
   over root near C =
-      rw square-scale (root-over (2 ^ k) (2 ^ (4 * k)) (2 ^ t) (2 ^ m) (2 ^ p) y r M b g K F (root-low k r p M h near) (root-high k r p M h near) C)
+      rw square-scale (root-over K F (root-low k r p M h near) (root-high k r p M h near) C)
   over inverseRoot near C =
-      rw square-scale (omega (arith, inverse-over (2 ^ k) (2 ^ (4 * k)) (2 ^ t) (2 ^ m) (2 ^ p) y r M b g K F (inverse-low k r p M h near) (inverse-high k r p M h near) C))
+      rw square-scale (omega (arith, inverse-over K F (inverse-low k r p M h near) (inverse-high k r p M h near) C))
 
   reach-small : (op : Op) → reachOf op ≤ 12
   reach-small reciprocal = omega arith
   reach-small root = omega arith
   reach-small inverseRoot = omega arith
 
+  -- the law: g is within its reach, for any such M and b
   pub general : (op : Op) → Multiplies op k r p M → Close op (2 ^ (4 * k)) (2 ^ t) (y * r) b → Near op k t y p (reachOf op) g
   general op near C =
       record {

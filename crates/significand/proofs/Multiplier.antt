@@ -1,7 +1,7 @@
 -- Step 4: M is within one unit of the exact M, being the largest whole number that is not above it. Assumes nothing.
-use mathlib.Core.Path.{_≡_, refl, ap}
+use mathlib.Core.Path.{refl, ap}
 use mathlib.Core.List.{[], _∷_}
-use Prim.Native.Nat.{ℕ, _+_, _*_, _-_, _^_, _≤_, _<_}
+use Prim.Native.Nat.{ℕ, _+_, _*_, _^_, _≤_, _<_}
 use native.Mathlib.Nat.{mul-le-mul-left, mul-le-mul-right, mul-pos}
 use native.Mathlib.Omega.{arith}
 use lib.Pow.{pow-pos}
@@ -10,7 +10,7 @@ use Rattle.numbers.proofs.Exponents.{power-of}
 use Rattle.numbers.proofs.SquareRoot.{SquareRoot, greatest-square, before-square}
 use Rattle.significand.specs.Steps.{multiplierOf}
 use Rattle.significand.proofs.Scale.{parity-most, root-power, inverse-power, whole-square}
-use Rattle.significand.proofs.General.{Multiplies, RootUnit, InverseUnit}
+use Rattle.significand.proofs.General.{Multiplies}
 
 module _ (k r p : ℕ) (e : p ≤ 1) (least : 2 ^ k ≤ r) (most : r ≤ 2 ^ (k + 1)) where
   abbrev Z : ℕ

@@ -1,7 +1,7 @@
 -- The reciprocal's series b against N² / W and N² / (W + 1). Assumes nothing.
 use mathlib.Core.Bool.{Bool, not}
 use mathlib.Core.List.{List, [], _∷_}
-use Prim.Native.Nat.{_≤_, _<_}
+use Prim.Native.Nat.{_≤_}
 use native.Mathlib.Omega.{arith}
 use Rattle.kinds.specs.Operation.{reciprocal}
 use Rattle.numbers.proofs.Ring.{#, _⊕_, _⊗_, ev, H, _⊙_⊑_}

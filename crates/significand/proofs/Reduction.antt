@@ -1,16 +1,16 @@
 -- Steps 1 and 2: the index i, the factor R, and the reduction of y R to N ± a, where a has three digits. Assumes nothing.
 use mathlib.Core.Path.{_≡_, refl, ap}
-use mathlib.Core.Bool.{Bool, true, false, not}
+use mathlib.Core.Bool.{Bool, true, false}
 use mathlib.Core.List.{[], _∷_}
-use Prim.Native.Nat.{ℕ, _+_, _*_, _-_, _/_, _%_, _^_, _≤_, _<_}
-use native.Mathlib.Nat.{mul-div-le, lt-mul-div-succ, div-mul-le-self, lt-div-mul-add, le-div-iff-mul-le, div-lt-iff-lt-mul, div-le-of-le-mul, mul-le-mul-left, mul-pos, div-add-mod', mod-lt}
+use Prim.Native.Nat.{ℕ, _+_, _*_, _-_, _/_, _^_, _≤_, _<_}
+use native.Mathlib.Nat.{mul-div-le, lt-mul-div-succ, div-mul-le-self, lt-div-mul-add, le-div-iff-mul-le, div-lt-iff-lt-mul, div-le-of-le-mul, mul-le-mul-left}
 use native.Mathlib.Omega.{arith}
-use lib.Pow.{pow-pos, pow-mono, shr-lt, shr-shr}
+use lib.Pow.{pow-pos, pow-mono}
 use lib.Dec.{leb}
 use borrow.Author.Tests.{leb-true, leb-false}
-use Rattle.numbers.proofs.Ring.{E, v, #, _⊕_, _⊗_, H, _⊙_⊑_, nlin}
+use Rattle.numbers.proofs.Ring.{E, v, #, _⊕_, _⊗_, _⊙_⊑_, nlin}
 use Rattle.numbers.proofs.Exponents.{power-of}
-use Rattle.significand.specs.Steps.{indexOf, factorOf, signOf, reducedOf, digit2, digit3, digit4}
+use Rattle.significand.specs.Steps.{indexOf, factorOf, signOf, reducedOf}
 use Rattle.significand.specs.Distance.{Significand}
 use Rattle.significand.proofs.Scale.{whole-is}
 
@@ -96,7 +96,7 @@ abbrev pub scaledOf : Bool → ℕ → ℕ → ℕ
 scaledOf true N a = N + a
 scaledOf false N a = N - a - 1
 
--- a is |u − T N| / T, floored: it is below Z³, and u is T times a number from N + a to N + a + 1, or from N − a − 1 to N − a
+-- a is |u − T N| / T, floored: u is T times a number from N + a to N + a + 1, or from N − a − 1 to N − a
 pub record Reduced (sign : Bool) (N T u a : ℕ) : Type 0 where
   pub from : T * scaledOf sign N a ≤ u
   pub upto : u ≤ T * (scaledOf sign N a + 1)
@@ -176,6 +176,7 @@ module _ (k t y : ℕ) (h : 7 ≤ k) (Y : Significand k t y) where
   unfolding reducedOf
   reduced-small = rw scale (reduced-below (2 ^ (4 * k)) (2 ^ (3 * k)) (2 ^ t) (y * r) (pow-pos t) low high)
 
+  -- and y R is T (N + a) or T (N − a), but for less than T
   pub reduced : Reduced (signOf k t (y * r)) (2 ^ (4 * k)) (2 ^ t) (y * r) (reducedOf k t (y * r))
   unfolding reducedOf signOf
   reduced =

@@ -2,12 +2,12 @@
 use mathlib.Core.Path.{_≡_}
 use mathlib.Core.Bool.{Bool}
 use mathlib.Core.List.{[], _∷_}
-use Prim.Native.Nat.{ℕ, _+_, _*_, _-_, _/_, _^_, _≤_, _<_}
+use Prim.Native.Nat.{ℕ, _+_, _*_, _^_, _≤_, _<_}
 use native.Mathlib.Omega.{arith}
-use Rattle.kinds.specs.Operation.{Op, reciprocal, root, inverseRoot}
+use Rattle.kinds.specs.Operation.{Op}
 use Rattle.numbers.proofs.Exponents.{power-of}
 use Rattle.significand.specs.Steps.{indexOf, factorOf, reducedOf, seriesOf, multiplierOf, rawOf}
-use Rattle.significand.specs.Distance.{Significand, distanceOf}
+use Rattle.significand.specs.Distance.{Significand}
 use Rattle.significand.proofs.Series.{series-most, series-least}
 use Rattle.significand.proofs.Scale.{whole-is}
 use Rattle.significand.proofs.General.{multiplier-most}

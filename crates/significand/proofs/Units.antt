@@ -2,11 +2,11 @@
 -- of the exact value. Assumes nothing.
 use mathlib.Core.Path.{_≡_, ap}
 use mathlib.Core.List.{[], _∷_}
-use Prim.Native.Nat.{ℕ, _+_, _*_, _-_, _/_, _^_, _≤_, _<_}
-use native.Mathlib.Nat.{mul-le-mul, mul-le-mul-left, mul-le-mul-right, mul-sub, mul-pos, lt-of-mul-lt-mul-right, lt-of-mul-lt-mul-left}
+use Prim.Native.Nat.{ℕ, _+_, _*_, _-_, _≤_, _<_}
+use native.Mathlib.Nat.{mul-le-mul, mul-le-mul-left, mul-le-mul-right, mul-sub, mul-pos, lt-of-mul-lt-mul-left}
 use native.Mathlib.Omega.{arith}
-use Rattle.kinds.specs.Operation.{Op, reciprocal, root, inverseRoot}
-use Rattle.numbers.proofs.Ring.{E, v, #, _⊕_, _⊗_, H, _⊙_⊑_, nlin, nlin×}
+use Rattle.kinds.specs.Operation.{reciprocal, root, inverseRoot}
+use Rattle.numbers.proofs.Ring.{E, v, #, _⊕_, _⊗_, _⊙_⊑_, nlin, nlin×}
 use Rattle.numbers.proofs.Products.{cancel-lt, squares-below, squares-above}
 use Rattle.numbers.proofs.Squares.{square-below}
 use Rattle.significand.proofs.Close.{Close}
@@ -29,7 +29,7 @@ module _ (Z N X R M : ℕ) where
   pub recip-multiplier : R ≤ 2 * Z → N ≡ Z * Z * Z * Z → 2 * M ≡ R * (Z * Z * Z) → M ≤ N
   recip-multiplier h whole exactly = omega (arith, mul-le-mul-right (Z * Z * Z) h, whole)
 
--- N is Z⁴, T the unit of the last digit, P = 2^m with 2 P = T Z³, X = 2^p, and R from Z to 2 Z
+-- N is Z⁴, T = 2^t, P = 2^m with 2 P = T Z³, X = 2^p, and R from Z to 2 Z
 pub record Setting (Z N T P X y R : ℕ) : Type 0 where
   pub whole : N ≡ Z * Z * Z * Z
   pub half : 2 * P ≡ T * Z * Z * Z
@@ -47,7 +47,7 @@ pub record Floored (N M b g : ℕ) : Type 0 where
   pub low : g * N ≤ M * b
   pub high : M * b < g * N + N
 
-module _ (N M b g : ℕ) (big : 128 ≤ N) (F : Floored N M b g) (most : 64 * b ≤ 65 * N) where
+module _ {N M b g : ℕ} (big : 128 ≤ N) (F : Floored N M b g) (most : 64 * b ≤ 65 * N) where
   -- (g − 7) N ≤ (b − 2) (M − 1)
   product-under : M ≤ 2 * N → (g - 7) * N ≤ (b - 2) * (M - 1)
   product-under m =
@@ -95,7 +95,7 @@ g′ = v 8
 abbrev Z³ : E
 Z³ = Z′ ⊗ Z′ ⊗ Z′
 
-module _ (Z N T P X y R M b g : ℕ) (K : Setting Z N T P X y R) (F : Floored N M b g) where
+module _ {Z N T P X y R M b g : ℕ} (K : Setting Z N T P X y R) (F : Floored N M b g) where
   -- the root: (M − 1)² R < 2 Z N² X < (M + 1)² R
   module _ (low : R * ((M - 1) * (M - 1)) < 2 * Z * N * N * X) (high : 2 * Z * N * N * X < R * ((M + 1) * (M + 1))) where
     root-top : M ≤ 2 * N
@@ -111,7 +111,7 @@ module _ (Z N T P X y R M b g : ℕ) (K : Setting Z N T P X y R) (F : Floored N 
           cancel-lt (2 * R * N * N) (Z * Z * Z) (mul-pos (mul-pos (K .radix) (K .radix)) (K .radix))
           (omega (arith, ap (λ (m : ℕ). R * N * N * e * e * m) (K .half)))
           (omega (arith, ap (λ (m : ℕ). 2 * y * R * N * N * N * X * m) (K .whole)))
-          (squares-below T R (b - 2) (M - 1) (C .high) low (product-under N M b g (K .big) F (C .most) root-top) positive)
+          (squares-below T R (b - 2) (M - 1) (C .high) low (product-under (K .big) F (C .most) root-top) positive)
 
       pub root-over : y * (N * N * X) < (g + 7) * (g + 7) * P
       root-over =
@@ -119,7 +119,7 @@ module _ (Z N T P X y R M b g : ℕ) (K : Setting Z N T P X y R) (F : Floored N 
           cancel-lt (2 * R * N * N) (Z * Z * Z) (mul-pos (mul-pos (K .radix) (K .radix)) (K .radix))
           (omega (arith, ap (λ (m : ℕ). 2 * y * R * N * N * N * X * m) (K .whole)))
           (omega (arith, ap (λ (m : ℕ). R * N * N * e * e * m) (K .half)))
-          (squares-above T R (b + 2) (M + 1) (C .low) high (product-over N M b g (K .big) F (C .most) root-top) positive)
+          (squares-above T R (b + 2) (M + 1) (C .low) high (product-over (K .big) F (C .most) root-top) positive)
 
   -- the inverse root: (M − 1)² 2 Z X < R N² < (M + 1)² 2 Z X
   module _ (low : 2 * Z * X * ((M - 1) * (M - 1)) < R * (N * N)) (high : R * (N * N) < 2 * Z * X * ((M + 1) * (M + 1))) where
@@ -130,7 +130,7 @@ module _ (Z N T P X y R M b g : ℕ) (K : Setting Z N T P X y R) (F : Floored N 
       exact-positive : 0 < N * N * N * T
       exact-positive = mul-pos (mul-pos (mul-pos (omega arith) (omega arith)) (omega arith)) (K .unit)
 
-      -- 2 P Z is N T
+      -- 2 P Z is N T, both multiplied by R N⁴
       exact : 2 * Z * R * N * N * (N * N * P) ≡ N * N * N * T * (R * (N * N))
       exact =
           omega (arith, ap (λ (m : ℕ). Z * R * N * N * N * N * m) (K .half), ap (λ (m : ℕ). R * N * N * N * N * T * m) (K .whole))
@@ -140,13 +140,13 @@ module _ (Z N T P X y R M b g : ℕ) (K : Setting Z N T P X y R) (F : Floored N 
           let e : ℕ = g - 7 in
           cancel-lt (2 * Z * R * N * N) 1 (omega arith) (omega arith) (omega (arith, exact))
           (squares-below (y * R) (2 * Z * X) (b - 2) (M - 1) (C .high) low
-          (product-under N M b g (K .big) F (C .most) (omega (arith, inverse-top))) exact-positive)
+          (product-under (K .big) F (C .most) (omega (arith, inverse-top))) exact-positive)
 
       pub inverse-over : N * N * P < (g + 7) * (g + 7) * (y * X)
       inverse-over =
           cancel-lt (8 * Z * R * N * N) 1 (omega arith) (omega (arith, exact)) (omega arith)
           (squares-above (y * R) (2 * Z * X) (2 * b + 9) (M + 1) (C .low) high
-          (product-twice N M b g (K .big) F (C .most) inverse-top) (omega (arith, exact-positive)))
+          (product-twice (K .big) F (C .most) inverse-top) (omega (arith, exact-positive)))
 
   -- the reciprocal: 2 M is R Z³
   module _ (exactly : 2 * M ≡ R * (Z * Z * Z)) where

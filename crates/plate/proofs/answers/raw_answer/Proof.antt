@@ -1,9 +1,9 @@
--- `plate::raw_answer` meets its contract: by the operation, with what an accepted call may rely on. Assumes nothing.
+-- `plate::answers::raw_answer` meets its contract: by the operation, with what an accepted call may rely on. Assumes nothing.
 use native.Mathlib.Omega.{arith}
 use Rattle.plate.proofs.Questions.{accepted}
 use Rattle.plate.proofs.Replies.{reciprocal-answer, root-answer, inverse-root-answer}
-use Rattle.plate.proofs.raw_answer.Statement.{statement}
-use Rattle.plate.proofs.raw_answer.Tie as tie
+use Rattle.plate.proofs.answers.raw_answer.Statement.{statement}
+use Rattle.plate.proofs.answers.raw_answer.Tie as tie
 
 reciprocal-requires : tie.Need-reciprocal-requires
 reciprocal-requires c κs = let b = c .before .before in let a = accepted (b .args .operation) (b .args .significand) (b .args .parity) (b .pre) in omega arith

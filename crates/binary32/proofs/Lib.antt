@@ -1,0 +1,7 @@
+pub mod Magnitudes
+pub mod Reaching
+pub mod Scales
+pub mod Assembly
+pub mod Specials
+pub mod Results
+pub mod Answers

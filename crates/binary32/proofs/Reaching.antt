@@ -1,0 +1,215 @@
+-- From a raw answer to the floor: where the start lies, and what a step up keeps. Assumes nothing.
+use mathlib.Core.Path.{_≡_, refl, sym, ap, subst, _∙_}
+use mathlib.Core.Bool.{Bool, true, false, cond}
+use mathlib.Core.Logic.{by-cases}
+use Prim.Native.Nat.{ℕ, zero, suc, _+_, _*_, _-_, _/_, _%_, _^_, _≤_, _<_}
+use native.Mathlib.Nat.{mul-div-le, mul-le-mul, mul-add-mod-self-left, le-trans, mod-eq-of-lt, lt-of-mul-lt-mul-left, lt-of-le-of-lt, lt-of-lt-of-le, le-of-lt}
+use native.Mathlib.Decide.{decLt}
+use native.Mathlib.Omega.{arith}
+use borrow.Author.Tests.{leb-true, leb-false, le-leb, lt-leb}
+use lib.Dec.{leb}
+use lib.Pow.{split, pow-add, pow-lt}
+use mir.Syntax.{w64}
+use mir.Val.{Fits}
+use Rattle.kinds.specs.Operation.{Op, reciprocal, root, inverseRoot}
+use Rattle.ieee.specs.Rounded.{side}
+use Rattle.ieee.proofs.Neighbours.{side-rising}
+use Rattle.significand.specs.Distance.{Near, Under, Over, distanceOf}
+use Rattle.binary32.specs.Floor.{targetOf, strideOf, spreadOf, stepsOf, Reached, stepped, Stepped, remainderOf}
+use Rattle.binary32.specs.declared.floor.Partial.{Partial}
+
+-- the start: the raw answer less its distance, in the floor's steps
+abbrev pub startOf : Op → ℕ → ℕ
+startOf op g = (g - distanceOf op) / strideOf op
+
+-- in finer steps the side is spread
+spread : (op : Op) (y q : ℕ) → side op y (strideOf op * q) ≡ spreadOf op * side op y q
+spread reciprocal y q = omega arith
+spread root y q = omega arith
+spread inverseRoot y q = omega arith
+
+-- the start is not above the raw answer less its distance, and with all the steps not below it and its distance
+start-low : (op : Op) (g : ℕ) → strideOf op * startOf op g ≤ g - distanceOf op
+start-low op g = mul-div-le (g - distanceOf op) (strideOf op)
+
+start-high : (op : Op) (g : ℕ) → g + distanceOf op ≤ strideOf op * (startOf op g + suc (stepsOf op))
+start-high reciprocal g = omega arith
+start-high root g = omega arith
+start-high inverseRoot g = omega arith
+
+spread-pos : (op : Op) → 0 < spreadOf op
+spread-pos reciprocal = omega arith
+spread-pos root = omega arith
+spread-pos inverseRoot = omega arith
+
+-- a number below or above the exact result, in the raw unit's steps, is so by its side
+under-side : (op : Op) (y p v : ℕ) → p ≤ 1 → Under op 7 23 y p v → side op y v < spreadOf op * targetOf op y p
+under-side reciprocal y p v h u = omega arith
+under-side root y zero v h u = omega arith
+under-side root y (suc zero) v h u = omega arith
+under-side root y (suc (suc p)) v h u = absurd (omega arith)
+under-side inverseRoot y zero v h u = omega arith
+under-side inverseRoot y (suc zero) v h u = omega arith
+under-side inverseRoot y (suc (suc p)) v h u = absurd (omega arith)
+
+over-side : (op : Op) (y p v : ℕ) → p ≤ 1 → Over op 7 23 y p v → spreadOf op * targetOf op y p < side op y v
+over-side reciprocal y p v h u = omega arith
+over-side root y zero v h u = omega arith
+over-side root y (suc zero) v h u = omega arith
+over-side root y (suc (suc p)) v h u = absurd (omega arith)
+over-side inverseRoot y zero v h u = omega arith
+over-side inverseRoot y (suc zero) v h u = omega arith
+over-side inverseRoot y (suc (suc p)) v h u = absurd (omega arith)
+
+module _ (op : Op) (y p g : ℕ) (parity : p ≤ 1) (near : Near op 7 3 y p (distanceOf op) g) where
+  -- the start is at or below the floor,
+  pub started-low : side op y (startOf op g) < targetOf op y p
+  started-low =
+      lt-of-mul-lt-mul-left (spreadOf op)
+      (subst (λ (n : ℕ). n < spreadOf op * targetOf op y p) (spread op y (startOf op g))
+      (lt-of-le-of-lt (side-rising op y (start-low op g)) (under-side op y p (g - distanceOf op) parity (near .under))))
+
+  -- and the steps lead past it
+  pub started-high : targetOf op y p < side op y (startOf op g + suc (stepsOf op))
+  started-high =
+      lt-of-mul-lt-mul-left (spreadOf op)
+      (subst (λ (n : ℕ). spreadOf op * targetOf op y p < n) (spread op y (startOf op g + suc (stepsOf op)))
+      (lt-of-lt-of-le (over-side op y p (g + distanceOf op) parity (near .over)) (side-rising op y (start-high op g))))
+
+  pub started : Reached op y (targetOf op y p) (record { quotient = startOf op g; left = targetOf op y p - side op y (startOf op g) }) (stepsOf op)
+  started = record { is = omega (arith, started-low); above = started-high }
+
+-- what a step up takes from the remainder
+abbrev pub amountOf : Op → ℕ → ℕ → ℕ
+amountOf reciprocal y q = y
+amountOf root y q = 2 * q + 1
+amountOf inverseRoot y q = (2 * q + 1) * y
+
+amount-is : (op : Op) (y q : ℕ) → side op y q + amountOf op y q ≡ side op y (q + 1)
+amount-is reciprocal y q = omega arith
+amount-is root y q = omega arith
+amount-is inverseRoot y q = omega arith
+
+-- one step brings the floor one step nearer
+pub nearer : (op : Op) (y x n : ℕ) (a r : Partial) → Reached op y x a (suc n) → Stepped a (amountOf op y (a .quotient)) r → Reached op y x r n
+nearer op y x n a r reached step =
+    subst (λ (b : Partial). Reached op y x b n) (sym (step .is)) (go (leb amount (a .left)) refl)
+  where
+    amount : ℕ
+    amount = amountOf op y (a .quotient)
+
+    go : (b : Bool) → leb amount (a .left) ≡ b
+        → Reached op y x (cond b (record { quotient = a .quotient + 1; left = a .left - amount }) a) n
+    go true e =
+        record {
+          is = omega (arith, leb-true amount (a .left) e, amount-is op y (a .quotient), reached .is);
+          above = subst (λ (k : ℕ). x < side op y k) (omega arith) (reached .above);
+        }
+    go false e =
+        record {
+          is = reached .is;
+          above = omega (arith, leb-false amount (a .left) e, amount-is op y (a .quotient), reached .is, side-rising op y {v = a .quotient + 1} {w = a .quotient + suc n} (omega arith));
+        }
+
+-- a product of i and j bits has i + j, and may fit a word
+pub product-small : (i j : ℕ) {a b : ℕ} → a ≤ 2 ^ i → b ≤ 2 ^ j → a * b ≤ 2 ^ (i + j)
+product-small i j {a} {b} ha hb = subst (λ (n : ℕ). a * b ≤ n) (sym (pow-add 2 i j)) (mul-le-mul ha hb)
+
+pub fits-product : (i j : ℕ) {a b : ℕ} → a ≤ 2 ^ i → b ≤ 2 ^ j → i + j < 64 → Fits w64 (a * b)
+fits-product i j {a} {b} ha hb h = record { fits = lt-of-le-of-lt (product-small i j ha hb) (pow-lt h) }
+
+-- a step, taken or not
+pub stepped-up : (x : Partial) (amount : ℕ) → amount ≤ x .left → Stepped x amount (record { quotient = x .quotient + 1; left = x .left - amount })
+stepped-up x amount h = record { is = simp (le-leb amount (x .left) h); most = omega arith }
+
+pub stepped-none : (x : Partial) (amount : ℕ) → x .left < amount → Stepped x amount x
+stepped-none x amount h = record { is = simp (lt-leb amount (x .left) h); most = omega arith }
+
+-- a number whose side is at most the target has 25 bits, or is 2^25
+pub quotient-small : (op : Op) (y p q : ℕ) → 8388608 ≤ y → y < 16777216 → p ≤ 1 → side op y q ≤ targetOf op y p → q ≤ 2 ^ 25
+quotient-small op y p q low high parity h =
+    by-cases (decLt (2 ^ 25) q) (λ l. absurd (go op p parity (le-trans (side-rising op y l) h))) (λ l. omega arith)
+  where
+    go : (o : Op) (n : ℕ) → n ≤ 1 → side o y (suc (2 ^ 25)) ≤ targetOf o y n → ⊥
+    go reciprocal n b k = omega arith
+    go root zero b k = omega arith
+    go root (suc zero) b k = omega arith
+    go root (suc (suc n)) b k = omega arith
+    go inverseRoot zero b k = omega arith
+    go inverseRoot (suc zero) b k = omega arith
+    go inverseRoot (suc (suc n)) b k = omega arith
+
+pub start-small : (op : Op) (y p g : ℕ) → 8388608 ≤ y → y < 16777216 → p ≤ 1 → Near op 7 3 y p (distanceOf op) g → startOf op g ≤ 2 ^ 25
+start-small op y p g low high parity near =
+    quotient-small op y p (startOf op g) low high parity (le-of-lt (started-low op y p g parity near))
+
+-- the reciprocal's three steps
+pub reciprocal-reached : (y g : ℕ) (a b r : Partial) → Near reciprocal 7 3 y 0 12 g
+    → Stepped (record { quotient = (g - 12) / 8; left = 2 ^ 48 - y * ((g - 12) / 8) }) y a → Stepped a y b → Stepped b y r
+    → Reached reciprocal y (targetOf reciprocal y 0) r 0
+reciprocal-reached y g a b r near sa sb sr =
+    let first = nearer reciprocal y (2 ^ 48) 2 _ a (started reciprocal y 0 g (omega arith) near) sa in
+    nearer reciprocal y (2 ^ 48) 0 b r (nearer reciprocal y (2 ^ 48) 1 a b first sb) sr
+
+-- the root's target fits a word
+pub root-target : (y p : ℕ) → y < 16777216 → p ≤ 1 → y * 2 ^ (25 + p) < 2 ^ 50
+root-target y zero h k = omega arith
+root-target y (suc zero) h k = omega arith
+root-target y (suc (suc p)) h k = omega arith
+
+pub root-shifted : (y p : ℕ) → y < 16777216 → p ≤ 1 → y * 2 ^ (25 + p) % 2 ^ 64 ≡ y * 2 ^ (25 + p)
+root-shifted y p h k = mod-eq-of-lt (omega (arith, root-target y p h k))
+
+-- the root's one step
+pub root-reached : (y p g : ℕ) (r : Partial) → y < 16777216 → p ≤ 1 → Near root 7 3 y p 8 g
+    → Stepped (record { quotient = (g - 8) / 16; left = y * 2 ^ (25 + p) % 2 ^ 64 - (g - 8) / 16 * ((g - 8) / 16) }) (2 * ((g - 8) / 16) + 1) r
+    → Reached root y (targetOf root y p) r 0
+root-reached y p g r h k near s =
+    nearer root y (targetOf root y p) 0 _ r (started root y p g k near) (rw (root-shifted y p h k) at s)
+
+-- what a number leaves of a multiple of 2^56, by its lower 56 bits, where that is below 2^56
+pub remainder-tells : (n m l : ℕ) → n + l ≡ m * 2 ^ 56 → l < 2 ^ 56 → (2 ^ 57 - n % 2 ^ 56) % 2 ^ 56 ≡ l
+remainder-tells n m l e h = omega arith
+
+-- the lower 56 bits of a product, from its factor by halves
+pub lower-bits : (s y : ℕ) → (s / 2 ^ 26 * y % 2 ^ 30 * 2 ^ 26 + s % 2 ^ 26 * y) % 2 ^ 56 ≡ s * y % 2 ^ 56
+lower-bits s y =
+    let e : 2 ^ 56 * (s / 2 ^ 26 * y / 2 ^ 30) + (s / 2 ^ 26 * y % 2 ^ 30 * 2 ^ 26 + s % 2 ^ 26 * y) ≡ s * y =
+    omega (arith, ap (λ (n : ℕ). n * y) (split s 26)) in
+    sym (ap (λ (n : ℕ). n % 2 ^ 56) (sym e) ∙ mul-add-mod-self-left (2 ^ 56) (s / 2 ^ 26 * y / 2 ^ 30) (s / 2 ^ 26 * y % 2 ^ 30 * 2 ^ 26 + s % 2 ^ 26 * y))
+
+pub remainder-is : (q y : ℕ)
+    → (2 ^ 57 - (q * q / 2 ^ 26 * y % 2 ^ 30 * 2 ^ 26 + q * q % 2 ^ 26 * y) % 2 ^ 56) % 2 ^ 56 ≡ remainderOf q y
+unfolding remainderOf
+remainder-is q y = ap (λ (n : ℕ). (2 ^ 57 - n) % 2 ^ 56) (lower-bits (q * q) y)
+
+-- three steps of the inverse root take fewer than 56 bits
+inverse-room : (q y : ℕ) → q ≤ 2 ^ 25 → y < 16777216 → side inverseRoot y (q + 3) < side inverseRoot y q + 2 ^ 56
+inverse-room q y h k = omega (arith, mul-le-mul h (le-of-lt k))
+
+inverse-target : (y p : ℕ) → p ≤ 1 → (m : ℕ) × (targetOf inverseRoot y p ≡ m * 2 ^ 56)
+inverse-target y zero h = (2 ^ 17, refl)
+inverse-target y (suc zero) h = (2 ^ 16, refl)
+inverse-target y (suc (suc p)) h = absurd (omega arith)
+
+-- the remainder at the start
+pub inverse-left : (y p g : ℕ) → 8388608 ≤ y → y < 16777216 → p ≤ 1 → Near inverseRoot 7 3 y p 8 g
+    → remainderOf (startOf inverseRoot g) y ≡ targetOf inverseRoot y p - side inverseRoot y (startOf inverseRoot g)
+unfolding remainderOf
+inverse-left y p g low high parity near =
+    let q = startOf inverseRoot g in
+    let m = inverse-target y p parity in
+    let small = start-small inverseRoot y p g low high parity near in
+    let l = started-low inverseRoot y p g parity near in
+    let u = started-high inverseRoot y p g parity near in
+    remainder-tells (q * q * y) (m .0) (targetOf inverseRoot y p - q * q * y) (omega (arith, l, m .1)) (omega (arith, u, inverse-room q y small high))
+
+-- the inverse root's two steps
+pub inverse-root-reached : (y p g l : ℕ) (a r : Partial) → 8388608 ≤ y → y < 16777216 → p ≤ 1 → Near inverseRoot 7 3 y p 8 g
+    → l ≡ remainderOf ((g - 8) / 8) y
+    → Stepped (record { quotient = (g - 8) / 8; left = l }) ((2 * ((g - 8) / 8) + 1) * y) a → Stepped a ((2 * a .quotient + 1) * y) r
+    → Reached inverseRoot y (targetOf inverseRoot y p) r 0
+inverse-root-reached y p g l a r low high parity near e sa sr =
+    let x = targetOf inverseRoot y p in
+    let first = nearer inverseRoot y x 1 _ a (started inverseRoot y p g parity near) (rw (e ∙ inverse-left y p g low high parity near) at sa) in
+    nearer inverseRoot y x 0 a r first sr

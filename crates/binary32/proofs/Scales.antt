@@ -1,0 +1,132 @@
+-- The floor of a significand is the floor of the exact result with a guard bit, at the scale of the operation. Assumes nothing.
+use mathlib.Core.Path.{_≡_, refl, sym, ap, ap₂, subst, _∙_}
+use mathlib.Core.Bool.{Bool, true, false, not}
+use mathlib.Core.Logic.{by-cases}
+use Prim.Native.Nat.{ℕ, zero, suc, _+_, _*_, _-_, _/_, _%_, _^_, _≤_, _<_}
+use native.Mathlib.Nat.{le-trans, le-of-mul-le-mul-left, lt-of-mul-lt-mul-left, eq-of-mul-eq-mul-left, mul-le-mul-left, mul-lt-mul-of-pos-left, lt-of-lt-of-le}
+use native.Mathlib.Decide.{decLt}
+use native.Mathlib.Omega.{arith}
+use borrow.Author.Tests.{eq-eqb, ne-eqb}
+use lib.Dec.{eqb}
+use lib.Pow.{pow-pos}
+use Rattle.kinds.specs.Operation.{Op, reciprocal, root, inverseRoot}
+use Rattle.numbers.proofs.Powers.{power-sum}
+use Rattle.ieee.specs.Format.{binary32, unitOf}
+use Rattle.ieee.specs.Rounded.{side, limit, twice}
+use Rattle.ieee.specs.Guarded.{Guarded}
+use Rattle.ieee.proofs.Neighbours.{side-rising}
+use Rattle.binary32.specs.Floor.{targetOf, Reached}
+use Rattle.binary32.specs.declared.floor.Partial.{Partial}
+use Rattle.binary32.proofs.Reaching.{quotient-small}
+
+-- two orders that differ by positive factors
+module _ (a b : ℕ) {m n m′ n′ : ℕ} (pos-a : 0 < a) (pos-b : 0 < b) (em : a * m ≡ b * m′) (en : a * n ≡ b * n′) where
+  carried≤ : m′ ≤ n′ → m ≤ n
+  carried≤ h = le-of-mul-le-mul-left {k = a} (omega (arith, mul-le-mul-left b h)) pos-a
+
+  carried< : m′ < n′ → m < n
+  carried< h = lt-of-mul-lt-mul-left a (omega (arith, mul-lt-mul-of-pos-left h pos-b))
+
+  carried≡ : m′ ≡ n′ → m ≡ n
+  carried≡ e = eq-of-mul-eq-mul-left a pos-a m n (em ∙ ap (λ (k : ℕ). b * k) e ∙ sym en)
+
+  carried-back : m ≡ n → m′ ≡ n′
+  carried-back e = eq-of-mul-eq-mul-left b pos-b m′ n′ (sym em ∙ ap (λ (k : ℕ). a * k) e ∙ en)
+
+-- a floor leaves 2^24 or more
+quotient-large : (op : Op) (y p q : ℕ) → 8388608 ≤ y → y < 16777216 → p ≤ 1 → targetOf op y p < side op y (suc q) → 2 ^ 24 ≤ q
+quotient-large op y p q low high parity h =
+    by-cases (decLt q (2 ^ 24)) (λ l. absurd (go op p parity (lt-of-lt-of-le h (side-rising op y l)))) (λ l. omega arith)
+  where
+    go : (o : Op) (n : ℕ) → n ≤ 1 → targetOf o y n < side o y (2 ^ 24) → ⊥
+    go reciprocal n b k = omega arith
+    go root zero b k = omega arith
+    go root (suc zero) b k = omega arith
+    go root (suc (suc n)) b k = omega arith
+    go inverseRoot zero b k = omega arith
+    go inverseRoot (suc zero) b k = omega arith
+    go inverseRoot (suc (suc n)) b k = omega arith
+
+-- and 2^25 nothing over
+quotient-top : (op : Op) (y p l : ℕ) → 8388608 ≤ y → y < 16777216 → p ≤ 1 → side op y (2 ^ 25) + l ≡ targetOf op y p → l ≡ 0
+quotient-top reciprocal y p l low high parity e = omega arith
+quotient-top root y zero l low high parity e = omega arith
+quotient-top root y (suc zero) l low high parity e = omega arith
+quotient-top root y (suc (suc p)) l low high parity e = omega arith
+quotient-top inverseRoot y zero l low high parity e = omega arith
+quotient-top inverseRoot y (suc zero) l low high parity e = omega arith
+quotient-top inverseRoot y (suc (suc p)) l low high parity e = omega arith
+
+-- The magnitude x stands to the significand y by factors a and b: sides and limits go over from one to the other
+module _ (op : Op) (x y p k : ℕ) (a b : ℕ) (pos-a : 0 < a) (pos-b : 0 < b) (low : 8388608 ≤ y) (high : y < 16777216) (parity : p ≤ 1)
+    (sides : (q : ℕ) → a * side op x (q * 2 ^ (k - 2)) ≡ b * side op y q)
+    (limits : a * (twice op ^ suc (2 - k) * limit (unitOf binary32) op x) ≡ b * targetOf op y p) where
+  carried : (r : Partial) → Reached op y (targetOf op y p) r 0 → Guarded binary32 op x (r .quotient) (not (eqb (r .left) 0)) k
+  carried r reached =
+      let next : targetOf op y p < side op y (suc (r .quotient)) = subst (λ (n : ℕ). targetOf op y p < side op y n) (omega arith) (reached .above) in
+      let this : side op y (r .quotient) ≤ targetOf op y p = omega (arith, reached .is) in
+      record {
+        low = carried≤ a b pos-a pos-b (sides (r .quotient)) limits this;
+        high = carried< a b pos-a pos-b limits (sides (suc (r .quotient))) next;
+        rest =
+            ap not
+            (by-cases (decLt 0 (r .left))
+            (λ h.
+            ne-eqb (r .left) 0 (λ e. omega arith)
+            ∙ sym (ne-eqb _ _ (λ e. omega (arith, reached .is, carried-back a b pos-a pos-b (sides (r .quotient)) limits e))))
+            (λ h.
+            eq-eqb (r .left) 0 (omega arith)
+            ∙ sym (eq-eqb _ _ (carried≡ a b pos-a pos-b (sides (r .quotient)) limits (omega (arith, reached .is))))));
+        least = quotient-large op y p (r .quotient) low high parity next;
+        most = quotient-small op y p (r .quotient) low high parity this;
+        top = λ e.
+            ap not (eq-eqb (r .left) 0 (quotient-top op y p (r .left) low high parity (subst (λ (n : ℕ). side op y n + r .left ≡ targetOf op y p) e (reached .is))));
+      }
+
+-- the powers of two of both sides come to the same
+powers-three : (i j k m n : ℕ) → i + (j + k) ≡ m + n → 2 ^ i * (2 ^ j * 2 ^ k) ≡ 2 ^ m * 2 ^ n
+powers-three i j k m n e =
+    ap (λ (p : ℕ). 2 ^ i * p) (power-sum j k (j + k) refl) ∙ power-sum i (j + k) (m + n) e ∙ sym (power-sum m n (m + n) refl)
+
+-- The scales: x × 2^23 is y × 2^j
+module _ (x y j : ℕ) (is : x * 2 ^ 23 ≡ y * 2 ^ j) (low : 8388608 ≤ y) (high : y < 16777216) (small : j ≤ 276) where
+  -- the reciprocal's is 276 − j, the two lowest being those of subnormal results
+  pub reciprocal-guarded : (r : Partial) → Reached reciprocal y (targetOf reciprocal y 0) r 0
+      → Guarded binary32 reciprocal x (r .quotient) (not (eqb (r .left) 0)) (276 - j)
+  reciprocal-guarded =
+      let k : ℕ = 276 - j in
+      let c : 2 ^ (k - 2) * 2 ^ j ≡ 2 ^ (274 + (2 - k)) = power-sum (k - 2) j (274 + (2 - k)) (omega arith) in
+      carried reciprocal x y 0 k (2 ^ 23) (2 ^ (274 + (2 - k))) (pow-pos 23) (pow-pos (274 + (2 - k))) low high (omega arith)
+      (λ q. rw (← c) (omega (arith, ap (λ (n : ℕ). n * (q * 2 ^ (k - 2))) is)))
+      (powers-three 23 (suc (2 - k)) 298 (274 + (2 - k)) 48 (omega arith))
+
+  -- the root's is half of j + 107, floored, and the parity is what is over
+  pub root-guarded : (r : Partial) → Reached root y (targetOf root y ((j + 107) % 2)) r 0
+      → Guarded binary32 root x (r .quotient) (not (eqb (r .left) 0)) ((j + 107) / 2)
+  root-guarded =
+      let k : ℕ = (j + 107) / 2 in
+      let p : ℕ = (j + 107) % 2 in
+      let z : 2 - k ≡ 0 = omega arith in
+      let c : 2 ^ (23 + p) * (2 ^ (k - 2) * 2 ^ (k - 2)) ≡ 2 ^ (j + 126) * 2 ^ 0 = powers-three (23 + p) (k - 2) (k - 2) (j + 126) 0 (omega arith) in
+      carried root x y p k (2 ^ (23 + p)) (2 ^ (j + 126)) (pow-pos (23 + p)) (pow-pos (j + 126)) low high (omega arith)
+      (λ q. omega (arith, ap (λ (n : ℕ). n * (q * q)) c))
+      (rw z (root-limit p 149 refl))
+    where
+      root-limit : (p u : ℕ) → u ≡ 149 → 2 ^ (23 + p) * (4 * (x * 2 ^ u)) ≡ 2 ^ (j + 126) * (y * 2 ^ (25 + p))
+      root-limit p u e =
+          let a : 2 ^ (23 + p) ≡ 2 ^ 23 * 2 ^ p = sym (power-sum 23 p (23 + p) refl) in
+          let b : 2 ^ (j + 2) * (2 ^ p * 2 ^ u) ≡ 2 ^ (j + 126) * 2 ^ (25 + p) = powers-three (j + 2) p u (j + 126) (25 + p) (omega arith) in
+          let c : 2 ^ j * 2 ^ 2 ≡ 2 ^ (j + 2) = power-sum j 2 (j + 2) refl in
+          rw a (omega (arith, ap (λ (n : ℕ). n * (4 * 2 ^ p * 2 ^ u)) is, ap (λ (n : ℕ). y * n) b, ap (λ (n : ℕ). y * (n * (2 ^ p * 2 ^ u))) c))
+
+  -- the inverse root's is half of 403 − j, rounded up, and the parity is what was added
+  pub inverse-guarded : (r : Partial) → Reached inverseRoot y (targetOf inverseRoot y ((403 - j) % 2)) r 0
+      → Guarded binary32 inverseRoot x (r .quotient) (not (eqb (r .left) 0)) ((404 - j) / 2)
+  inverse-guarded =
+      let k : ℕ = (404 - j) / 2 in
+      let p : ℕ = (403 - j) % 2 in
+      let z : 2 - k ≡ 0 = omega arith in
+      let c : 2 ^ (k - 2) * (2 ^ (k - 2) * 2 ^ j) ≡ 2 ^ (399 + p) * 2 ^ 0 = powers-three (k - 2) (k - 2) j (399 + p) 0 (omega arith) in
+      carried inverseRoot x y p k (2 ^ 23) (2 ^ (399 + p)) (pow-pos 23) (pow-pos (399 + p)) low high (omega arith)
+      (λ q. omega (arith, ap (λ (n : ℕ). n * (q * 2 ^ (k - 2) * (q * 2 ^ (k - 2)))) is, ap (λ (n : ℕ). n * (q * q * y)) c))
+      (rw z (powers-three 23 2 447 (399 + p) (73 - p) (omega arith)))

@@ -1,0 +1,49 @@
+-- The floors with a guard bit of a significand, and how a raw answer leads to them. Assumes nothing.
+use mathlib.Core.Path.{_≡_}
+use mathlib.Core.Bool.{cond}
+use Prim.Native.Nat.{ℕ, suc, _+_, _*_, _-_, _%_, _^_, _≤_, _<_}
+use lib.Dec.{leb}
+use Rattle.kinds.specs.Operation.{Op, reciprocal, root, inverseRoot}
+use Rattle.ieee.specs.Rounded.{side}
+use Rattle.binary32.specs.declared.floor.Partial.{Partial}
+
+-- The floor is the greatest q with y·q ≤ 2^48, q² ≤ y·2^(25 + p), or q²·y ≤ 2^(73 − p): `side` at most the target
+abbrev pub targetOf : Op → ℕ → ℕ → ℕ
+targetOf reciprocal y p = 2 ^ 48
+targetOf root y p = y * 2 ^ (25 + p)
+targetOf inverseRoot y p = 2 ^ (73 - p)
+
+-- a raw answer g counts the result in finer steps: so many to one of the floor's
+abbrev pub strideOf : Op → ℕ
+strideOf reciprocal = 8
+strideOf root = 16
+strideOf inverseRoot = 8
+
+-- so that the target is taken so often where g stands for q
+abbrev pub spreadOf : Op → ℕ
+spreadOf reciprocal = 8
+spreadOf root = 256
+spreadOf inverseRoot = 64
+
+-- how many steps lead from the start to the floor at most
+abbrev pub stepsOf : Op → ℕ
+stepsOf reciprocal = 3
+stepsOf root = 1
+stepsOf inverseRoot = 2
+
+-- a number at or below the floor, with what it leaves of the target x; n steps or fewer lead to the floor
+pub record Reached (op : Op) (y x : ℕ) (r : Partial) (n : ℕ) : Type 0 where
+  pub is : side op y (r .quotient) + r .left ≡ x
+  pub above : x < side op y (r .quotient + suc n)
+
+-- one step up where the remainder has room for it
+abbrev pub stepped : Partial → ℕ → Partial
+stepped x amount = cond (leb amount (x .left)) (record { quotient = x .quotient + 1; left = x .left - amount }) x
+
+pub record Stepped (x : Partial) (amount : ℕ) (r : Partial) : Type 0 where
+  pub is : r ≡ stepped x amount
+  pub most : r .quotient ≤ x .quotient + 1
+
+-- the lower 56 bits of a power of two above them, less q²·y
+unfoldable pub remainderOf : ℕ → ℕ → ℕ
+remainderOf q y = (2 ^ 57 - q * q * y % 2 ^ 56) % 2 ^ 56

@@ -1,0 +1,4 @@
+pub mod Operand
+pub mod Floor
+pub mod Guard
+pub mod Special

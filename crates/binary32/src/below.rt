@@ -1,0 +1,61 @@
+// The pattern below the exact result of each operation on a positive finite operand, through the raw unit.
+ghost use Rattle.kinds.specs.Operation.{opOf, reciprocal as Op·reciprocal, root as Op·root, inverseRoot as Op·inverseRoot};
+ghost use Rattle.binary32.specs.Operand.{Ordinary};
+ghost use Rattle.binary32.specs.Guard.{BelowResult};
+use crate::floor;
+use crate::guard::Neighbour;
+use crate::guard::lower;
+use crate::operand::scale;
+use kinds::Operation;
+
+pub fn below(operation: Operation, exponent: u32, fraction: u32) -> Neighbour
+    requires { ⌜ Ordinary exponent fraction ⌝ }
+    ensures { λ r. ⌜ BelowResult (opOf (operation .0)) exponent fraction r ⌝ }
+{
+    if operation.0 == Operation::RECIPROCAL.0 {
+        return reciprocal(exponent, fraction);
+    }
+    if operation.0 == Operation::ROOT.0 {
+        return root(exponent, fraction);
+    }
+    inverse_root(exponent, fraction)
+}
+
+// With X = y / 2^23 × 2^e, e = exponent − 149, the reciprocal is 1 / (y / 2^23) × 2^-e.
+fn reciprocal(exponent: u32, fraction: u32) -> Neighbour
+    requires { ⌜ Ordinary exponent fraction ⌝ }
+    ensures { λ r. ⌜ BelowResult Op·reciprocal exponent fraction r ⌝ }
+{
+    let x = scale(exponent, fraction);
+    let y = x.significand;
+    let g = raw::reciprocal(y as u32) as u64;
+    let r = floor::reciprocal(y, g);
+    lower(r.quotient, r.left != 0, 276 - x.exponent)
+}
+
+// e is 2h + p. Raised by 256 it is not negative, so that the halving floors: −3 is twice −2 with parity 1.
+fn root(exponent: u32, fraction: u32) -> Neighbour
+    requires { ⌜ Ordinary exponent fraction ⌝ }
+    ensures { λ r. ⌜ BelowResult Op·root exponent fraction r ⌝ }
+{
+    let x = scale(exponent, fraction);
+    let y = x.significand;
+    let e = x.exponent + 107;
+    let p = e % 2;
+    let g = raw::root(y as u32, p as u32) as u64;
+    let r = floor::root(y, p, g);
+    lower(r.quotient, r.left != 0, e / 2)
+}
+
+// −e is 2h − p, and 1 / √X is 1 / √(2^p × y / 2^23) × 2^h: the halving rounds up.
+fn inverse_root(exponent: u32, fraction: u32) -> Neighbour
+    requires { ⌜ Ordinary exponent fraction ⌝ }
+    ensures { λ r. ⌜ BelowResult Op·inverseRoot exponent fraction r ⌝ }
+{
+    let x = scale(exponent, fraction);
+    let y = x.significand;
+    let p = (403 - x.exponent) % 2;
+    let g = raw::inverse_root(y as u32, p as u32) as u64;
+    let r = floor::inverse_root(y, p, g);
+    lower(r.quotient, r.left != 0, (404 - x.exponent) / 2)
+}

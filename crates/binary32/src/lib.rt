@@ -1,0 +1,55 @@
+// The binary32 unit: reciprocal, root and inverse root of a pattern, correctly rounded, with flags.
+mod below;
+mod floor;
+mod guard;
+mod operand;
+mod special;
+
+ghost use mathlib.Core.Path.{_≡_};
+ghost use Rattle.kinds.specs.Operation.{opOf, reciprocal as Op·reciprocal, root as Op·root, inverseRoot as Op·inverseRoot};
+ghost use Rattle.kinds.specs.Rounding.{modeOf};
+ghost use Rattle.ieee.specs.Format.{binary32};
+ghost use Rattle.ieee.specs.Answer.{answerOf};
+ghost use Rattle.binary32.specs.Guard.{roundedAnswer};
+use below::below;
+use guard::round;
+use kinds::Operation;
+use kinds::Rounding;
+use operand::fields;
+use special::is_special;
+use special::special;
+
+// A pattern and the flags that its operation raises.
+pub struct Rounded {
+    pub bits: u32,
+    pub flags: u8,
+}
+
+// An operation on a pattern. A number that is no operation's or no rounding's counts as the last: whoever calls asks the questions.
+pub fn answer(operation: Operation, rounding: Rounding, bits: u32) -> Rounded
+    ensures { λ r. ⌜ r ≡ roundedAnswer (answerOf binary32 (opOf (operation .0)) (modeOf (rounding .0)) bits) ⌝ }
+{
+    let x = fields(bits);
+    if is_special(operation, x) {
+        return special(operation, x);
+    }
+    round(rounding, x.sign, below(operation, x.exponent, x.fraction))
+}
+
+pub fn reciprocal(rounding: Rounding, bits: u32) -> Rounded
+    ensures { λ r. ⌜ r ≡ roundedAnswer (answerOf binary32 Op·reciprocal (modeOf (rounding .0)) bits) ⌝ }
+{
+    answer(Operation::RECIPROCAL, rounding, bits)
+}
+
+pub fn root(rounding: Rounding, bits: u32) -> Rounded
+    ensures { λ r. ⌜ r ≡ roundedAnswer (answerOf binary32 Op·root (modeOf (rounding .0)) bits) ⌝ }
+{
+    answer(Operation::ROOT, rounding, bits)
+}
+
+pub fn inverse_root(rounding: Rounding, bits: u32) -> Rounded
+    ensures { λ r. ⌜ r ≡ roundedAnswer (answerOf binary32 Op·inverseRoot (modeOf (rounding .0)) bits) ⌝ }
+{
+    answer(Operation::INVERSE_ROOT, rounding, bits)
+}
