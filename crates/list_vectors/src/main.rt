@@ -22,7 +22,12 @@ fn run_frame() -> bool {
     }
     let mut map = [0u8; 16401];
     let mut out = [0u8; 46144];
-    run_map(&mut map, word_at(&head, 0) as usize, &mut out, word_at(&head, 4) as usize)
+    run_map(
+        &mut map,
+        word_at(&head, 0) as usize,
+        &mut out,
+        word_at(&head, 4) as usize,
+    )
 }
 
 fn run_map(map: &mut [u8], length: usize, out: &mut [u8], room: usize) -> bool {

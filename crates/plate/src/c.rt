@@ -28,7 +28,12 @@ pub extern "C" fn plate_raw(operation: u8, significand: u32, parity: u8) -> u64
 pub extern "C" fn plate_binary32(operation: u8, rounding: u8, status: u8, bits: u32) -> u64
     ensures { λ r. ⌜ r ≡ packed (binary32Refusal operation rounding) (binary32Status operation rounding bits status) (binary32Bits operation rounding bits) ⌝ }
 {
-    let r = binary32(Operation(operation), Rounding(rounding), bits, Status { flags: status });
+    let r = binary32(
+        Operation(operation),
+        Rounding(rounding),
+        bits,
+        Status { flags: status },
+    );
     (r.refusal as u64) * 1099511627776 + (r.status.flags as u64) * 4294967296 + r.bits as u64
 }
 

@@ -72,7 +72,12 @@ pub struct Binary32Reply {
 }
 
 // The binary32 call: an operation on the number with these bits, rounded. The flags that it raises are joined to the status.
-pub fn binary32(operation: Operation, rounding: Rounding, bits: u32, status: Status) -> Binary32Reply
+pub fn binary32(
+    operation: Operation,
+    rounding: Rounding,
+    bits: u32,
+    status: Status,
+) -> Binary32Reply
     ensures { λ r. ⌜ r ≡ binary32Call (operation .0) (rounding .0) bits status ⌝ }
 {
     let refusal = door::binary32_refusal(operation.0, rounding.0);

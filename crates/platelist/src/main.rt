@@ -43,7 +43,11 @@ fn show_list(trailer: Trailer, out: &[u8])
     show(trailer.depth as u64, b" ");
     show(trailer.step, b" ");
     show(trailer.radius, b"\n");
-    show_records(trailer.width - 2, (trailer.width - 2) * (trailer.depth - 2), out);
+    show_records(
+        trailer.width - 2,
+        (trailer.width - 2) * (trailer.depth - 2),
+        out,
+    );
 }
 
 fn show_records(columns: usize, count: usize, out: &[u8])
