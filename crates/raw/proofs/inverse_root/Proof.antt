@@ -5,6 +5,12 @@ use borrow.Author.Needs.{needs}
 use Rattle.raw.proofs.inverse_root.Statement.{statement}
 use Rattle.raw.proofs.inverse_root.Tie as tie
 
+cast-i : tie.Need-cast-i
+cast-i c = search needs
+
+factor-requires : tie.Need-factor-requires
+factor-requires c κs = search needs
+
 reduce-requires : tie.Need-reduce-requires
 reduce-requires c κs = search needs
 
@@ -27,6 +33,8 @@ pub inverse-root-spec : {M : Type 1} → statement M
 inverse-root-spec =
     tie.close
     (tie.spec
+    cast-i
+    factor-requires
     reduce-requires
     inverse-root-series-requires
     cast-inverse-root

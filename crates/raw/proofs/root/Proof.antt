@@ -5,6 +5,12 @@ use borrow.Author.Needs.{needs}
 use Rattle.raw.proofs.root.Statement.{statement}
 use Rattle.raw.proofs.root.Tie as tie
 
+cast-i : tie.Need-cast-i
+cast-i c = search needs
+
+factor-requires : tie.Need-factor-requires
+factor-requires c κs = search needs
+
 reduce-requires : tie.Need-reduce-requires
 reduce-requires c κs = search needs
 
@@ -26,4 +32,12 @@ returns c = search raw-is
 pub root-spec : {M : Type 1} → statement M
 root-spec =
     tie.close
-    (tie.spec reduce-requires root-series-requires cast-root root-requires scaled-requires returns)
+    (tie.spec
+    cast-i
+    factor-requires
+    reduce-requires
+    root-series-requires
+    cast-root
+    root-requires
+    scaled-requires
+    returns)
