@@ -11,7 +11,7 @@ use mir.Syntax.{rvOpd, op2, op1, addrOf, aggregate, repeat, int, intBig, intNeg,
 use lib.Dec.{T, eqb, eqb→eq}
 use lib.ListN.{length}
 use types.Run.{OneOf}
-use Rattle.numbers.specs.Table.{every}
+use Rattle.tables.specs.Table.{every}
 
 -- the number that an operand, an assignment and an arm give; 0 where that is no literal
 abbrev literal : Opd → ℕ
