@@ -1,17 +1,17 @@
 -- The offsets and the centre at a point, as the code works them out. Assumes nothing.
-use mathlib.Core.Path.{_≡_, refl, sym, ap, ap₂, _∙_}
-use mathlib.Core.Bool.{Bool, false}
-use mathlib.Core.List.{List, _++_}
-use Prim.Native.Nat.{ℕ, suc, _+_, _-_, _*_, _^_, _≤_, _<_}
+use mathlib.Core.Path.{_≡_, ap, _∙_}
+use mathlib.Core.Bool.{false}
+use mathlib.Core.List.{List}
+use Prim.Native.Nat.{ℕ, _+_, _*_, _≤_, _<_}
 use native.Mathlib.Nat.{mul-le-mul}
 use native.Mathlib.Omega.{arith}
 use mir.Val.{Fits}
 use mir.Syntax.{w64}
 use lib.ListN.{length}
-use lib.IntN.{ℤ, pos, natAbs, negℤ, _+ℤ_}
+use lib.IntN.{ℤ, pos, negℤ, _+ℤ_}
 use Rattle.kinds.specs.Rounding.{Mode}
 use Rattle.words.specs.Word.{wordAt, wordBytes}
-use Rattle.words.specs.Signed.{signed, wordOf, withSign, isNegative}
+use Rattle.words.specs.Signed.{signed, wordOf, withSign}
 use Rattle.words.specs.Parts.{partsOf}
 use Rattle.words.specs.Splice.{splice}
 use Rattle.words.proofs.Splicing.{three-words}
@@ -23,7 +23,7 @@ use Rattle.cutter.specs.Map.{heightAt, acrossAt, alongAt}
 use Rattle.cutter.specs.Centre.{centreOf, pointAt, recordBytes}
 use Rattle.cutter.specs.Asked.{Sizes, Steps}
 use Rattle.cutter.specs.Map.{Inner}
-use Rattle.cutter.specs.Normal.{NormalOf, Measured, offsetParts, offsetsOf, Short, wordsBytes}
+use Rattle.cutter.specs.Normal.{NormalOf, Measured, offsetParts, offsetsOf, wordsBytes}
 use Rattle.cutter.specs.declared.heights.Normal.{Normal}
 use Rattle.cutter.specs.declared.points.Offsets.{Offsets}
 use Rattle.cutter.specs.declared.points.Words.{Words}

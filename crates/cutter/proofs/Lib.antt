@@ -3,3 +3,4 @@ pub mod Slopes
 pub mod Centres
 pub mod Rows
 pub mod Whole
+pub mod Locality

@@ -1,5 +1,5 @@
 -- Laws of the questions: what each "no" and each "yes" says. Assumes nothing.
-use mathlib.Core.Path.{_≡_, refl, sym, ap, ap₂, _∙_}
+use mathlib.Core.Path.{_≡_, refl, sym, ap, _∙_}
 use mathlib.Core.Bool.{Bool, true, false, not, _&&_, true≢false}
 use mathlib.Core.List.{List}
 use Prim.Native.Nat.{ℕ, zero, suc, _+_, _-_, _*_, _%_, _≤_, _<_}
@@ -13,14 +13,13 @@ use lib.ListN.{length}
 use lib.IntN.{natAbs}
 use borrow.Author.Tests.{not-true, not-false, leb-true, eqb-true, le-leb, lt-leb}
 use Rattle.kinds.specs.Question.{ask}
-use Rattle.kinds.specs.Rounding.{isRounding}
 use Rattle.words.specs.Word.{wordAt, readsAt}
 use Rattle.words.specs.Signed.{signed}
 use Rattle.words.proofs.Differences.{either, signed-within}
 use Rattle.cutter.specs.Map.{plt1, trailerAt, distanceOf, widthOf, depthOf, stepOf, radiusOf}
-use Rattle.cutter.specs.List.{countOf, listLength}
+use Rattle.cutter.specs.List.{listLength}
 use Rattle.cutter.specs.Call.{within, heightsWithin, listRefusal}
-use Rattle.cutter.specs.Asked.{trailerOf, Sizes, Steps, Heights, Ready, heightsRefusal, trailerRefusal}
+use Rattle.cutter.specs.Asked.{trailerOf, Sizes, Steps, heightsRefusal, trailerRefusal}
 use Rattle.cutter.specs.declared.trailer.Trailer.{Trailer}
 
 -- ---- the trailer

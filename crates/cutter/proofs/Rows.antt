@@ -1,22 +1,19 @@
 -- The inner points of a map in their order, and a loop that puts their records. Assumes nothing.
-use mathlib.Core.Path.{_≡_, refl, sym, ap, ap₂, _∙_}
-use mathlib.Core.List.{List, _++_}
-use Prim.Native.Nat.{ℕ, suc, _+_, _-_, _*_, _/_, _%_, _≤_, _<_}
+use mathlib.Core.Path.{_≡_, ap, ap₂, _∙_}
+use mathlib.Core.List.{List}
+use Prim.Native.Nat.{ℕ, _+_, _-_, _*_, _/_, _%_, _≤_, _<_}
 use native.Mathlib.Nat.{zero-add, mul-comm, mod-lt, mod-eq-of-lt, div-eq-of-lt, div-add-mod', div-lt-iff-lt-mul, add-mul-div-right, add-mul-mod-self-right}
 use native.Mathlib.Omega.{arith}
 use borrow.Author.Tests.{lt-ltb, le-ltb}
-use mir.Val.{Fits}
-use mir.Syntax.{w64}
 use lib.ListN.{length, length-append}
 use Rattle.kinds.specs.Rounding.{Mode}
 use Rattle.words.specs.Splice.{splice}
 use Rattle.words.specs.Joined.{joined}
 use Rattle.words.proofs.Splicing.{length-word}
-use Rattle.words.proofs.Runs.{Written, written-none, written-more, written-all, length-joined, room-left}
+use Rattle.words.proofs.Runs.{Written, written-more, length-joined}
 use Rattle.words.proofs.Differences.{either}
-use Rattle.cutter.specs.Map.{widthOf, depthOf, stepOf, radiusOf}
-use Rattle.cutter.specs.Centre.{Centre, centreOf, pointAt, recordBytes}
-use Rattle.cutter.specs.List.{countOf, centreAt, recordAt}
+use Rattle.cutter.specs.Centre.{centreOf, pointAt, recordBytes}
+use Rattle.cutter.specs.List.{centreAt, recordAt}
 use Rattle.cutter.specs.Asked.{trailerOf, Sizes, Ready}
 use Rattle.cutter.specs.Map.{Inner}
 use Rattle.cutter.specs.Reply.{placeOf, nextOf}

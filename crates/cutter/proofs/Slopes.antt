@@ -1,18 +1,17 @@
 -- Heights and their differences, as the code has them. Assumes nothing.
-use mathlib.Core.Path.{_≡_, refl, sym, ap, ap₂, _∙_}
+use mathlib.Core.Path.{_≡_, sym, ap, ap₂, _∙_}
 use mathlib.Core.List.{List}
 use Prim.Native.Nat.{ℕ, suc, _+_, _-_, _*_, _%_, _≤_, _<_}
 use native.Mathlib.Nat.{mul-comm, suc-mul, mul-le-mul, mul-le-mul-right}
 use native.Mathlib.Omega.{arith}
 use mir.Val.{Fits}
 use mir.Syntax.{w64}
-use lib.ListN.{length}
-use lib.IntN.{ℤ, pos, subℕ, natAbs, negℤ, _+ℤ_, _-ℤ_, negℤ-+ℤ, negℤ-negℤ, +ℤ-comm}
+use lib.IntN.{ℤ, subℕ, natAbs, negℤ, _+ℤ_, _-ℤ_, negℤ-+ℤ, negℤ-negℤ, +ℤ-comm}
 use Rattle.words.specs.Word.{wordAt}
-use Rattle.words.specs.Signed.{signed, isNegative}
+use Rattle.words.specs.Signed.{signed}
 use Rattle.words.specs.Parts.{partsOf}
 use Rattle.words.specs.declared.Signed.{Signed}
-use Rattle.words.proofs.Differences.{signed-raised, within-raised, diff-sub, diff-eq, diff-abs, abs-neg}
+use Rattle.words.proofs.Differences.{signed-raised, within-raised, diff-sub, diff-eq, diff-abs}
 use Rattle.cutter.specs.Map.{heightAt, acrossAt, alongAt}
 use Rattle.cutter.specs.Asked.{Heights, Sizes}
 use Rattle.cutter.specs.Map.{Inner}

@@ -1,21 +1,19 @@
 -- The list of an accepted map, whole, and what the call answers. Assumes nothing.
 use mathlib.Core.Path.{_≡_, refl, sym, ap, ap₂, _∙_}
-use mathlib.Core.Bool.{Bool, true, false, cond, _&&_, true≢false}
-use mathlib.Core.List.{List, _++_, append-assoc}
-use Prim.Native.Nat.{ℕ, zero, suc, _+_, _-_, _*_, _≤_, _<_}
+use mathlib.Core.Bool.{Bool, true, false, _&&_}
+use mathlib.Core.List.{List, _++_}
+use Prim.Native.Nat.{ℕ, suc, _+_, _-_, _*_, _≤_}
 use native.Mathlib.Nat.{zero-add}
 use native.Mathlib.Omega.{arith}
 use borrow.Author.Tests.{leb-true, eqb-true, eq-eqb, ne-eqb}
-use mir.Val.{Fits}
-use mir.Syntax.{w64}
 use lib.Dec.{leb, eqb}
 use lib.ListN.{length, length-append}
 use Rattle.kinds.specs.Question.{ask}
 use Rattle.kinds.specs.Rounding.{Mode, isRounding, modeOf}
-use Rattle.words.specs.Word.{wordAt, wordBytes, halfBytes, readsAt}
+use Rattle.words.specs.Word.{wordBytes, halfBytes, readsAt}
 use Rattle.words.specs.Splice.{splice}
 use Rattle.words.specs.Joined.{joined}
-use Rattle.words.proofs.Splicing.{splice-splice, pair-bytes, length-word, length-half}
+use Rattle.words.proofs.Splicing.{splice-splice, pair-bytes}
 use Rattle.cutter.specs.Map.{plt1, trailerAt, distanceOf, widthOf, depthOf, stepOf, radiusOf}
 use Rattle.cutter.specs.List.{cut1, countOf, recordAt, trailerBytes, listLength, listBytes}
 use Rattle.cutter.specs.Call.{within, heightsWithin, listRefusal, listAnswer, bufferAfter}
@@ -23,7 +21,7 @@ use Rattle.cutter.specs.Asked.{trailerOf, Halves, Sizes, Steps, Heights,
 use Rattle.cutter.specs.Reply.{listReply}
 use Rattle.cutter.specs.declared.Listed.{Listed}
 use Rattle.cutter.specs.declared.trailer.Trailer.{Trailer}
-use Rattle.cutter.proofs.Questions.{both-are, sizes-are, steps-are, heights-small, count-most}
+use Rattle.cutter.proofs.Questions.{both-are, sizes-are, steps-are, heights-small}
 use Rattle.cutter.proofs.Rows.{length-records}
 
 -- ---- what the answer 0 tells

@@ -68,3 +68,28 @@ fn digit(b: u8) -> u64
         _ => 16,
     }
 }
+
+// A number as a byte; one that is too large is 255, which no question takes.
+pub fn byte(x: u64) -> u8 {
+    if x < 256 { x as u8 } else { 255 }
+}
+
+// The eight hexadecimal digits of a pattern.
+pub fn hex(x: u32) -> [u8; 8] {
+    [
+        hex_digit(x / 268435456),
+        hex_digit(x / 16777216),
+        hex_digit(x / 1048576),
+        hex_digit(x / 65536),
+        hex_digit(x / 4096),
+        hex_digit(x / 256),
+        hex_digit(x / 16),
+        hex_digit(x),
+    ]
+}
+
+// The last hexadecimal digit of a number, in upper case.
+fn hex_digit(x: u32) -> u8 {
+    let d = (x % 16) as u8;
+    if d < 10 { 48 + d } else { 55 + d }
+}

@@ -3,14 +3,14 @@ use Prim.Native.Nat.{ℕ, suc, _+_, _-_, _*_, _/_, _%_, _^_, _≤_, _<_}
 use mathlib.Core.Path.{_≡_, sym, ap, _∙_, subst}
 use mathlib.Core.List.{List, [], _∷_}
 use mathlib.Core.Logic.{by-cases}
-use native.Mathlib.Nat.{pow-suc, mod-eq-of-lt, mod-lt, div-add-mod, mul-div-le, lt-mul-div-succ, mul-le-mul, mul-le-mul-left, mul-le-mul-right, pow-le-pow-right}
+use native.Mathlib.Nat.{pow-suc, mod-eq-of-lt, mod-lt, div-add-mod, mul-div-le, lt-mul-div-succ, mul-le-mul, mul-le-mul-right, pow-le-pow-right}
 use native.Mathlib.Decide.{decLt}
 use native.Mathlib.Omega.{arith}
 use lib.Count.{leadingZeros, leading-top}
 use lib.Pow.{pow-pos, pow-add}
 use mir.Syntax.{w64}
 use mir.Val.{Fits}
-use Rattle.numbers.proofs.Ring.{E, v, #, _⊕_, _⊗_, H, _⊙_⊑_, nlin, nlin×}
+use Rattle.numbers.proofs.Ring.{E, v, #, _⊕_, _⊗_, _⊙_⊑_, nlin, nlin×}
 use Rattle.kinds.specs.Operation.{inverseRoot}
 use Rattle.significand.specs.Steps.{rawOf}
 use Rattle.significand.specs.Distance.{Significand, Near}

@@ -3,3 +3,5 @@ pub mod Replies
 pub mod Sticky
 pub mod Rounded
 pub mod Listed
+pub mod Bracket
+pub mod Table

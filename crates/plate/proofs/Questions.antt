@@ -36,7 +36,7 @@ unfolding binary32Refusal
 binary32-refusal-is operation rounding q r eq er = cc
 
 -- a question that did not give its number was answered yes
-yes : (t : Bool) (n rest : ℕ) → ask t (suc n) rest ≡ 0 → T t × (rest ≡ 0)
+pub yes : (t : Bool) (n rest : ℕ) → ask t (suc n) rest ≡ 0 → T t × (rest ≡ 0)
 unfolding ask
 yes true n rest e = (tt, e)
 yes false n rest e = absurd (omega arith)

@@ -24,8 +24,8 @@ fn answer_line(text: &[u8], at: usize) -> usize
     let first = lines::number_at(text, at, 10);
     let significand = lines::number_at(text, first.next, 10);
     let parity = lines::number_at(text, significand.next, 10);
-    let operation = plate::Operation(byte(first.value));
-    show(plate::raw(operation, significand.value as u32, byte(parity.value)));
+    let operation = plate::Operation(lines::byte(first.value));
+    show(plate::raw(operation, significand.value as u32, lines::byte(parity.value)));
     parity.next
 }
 
@@ -35,9 +35,4 @@ fn show(r: plate::RawReply) {
     io::write_all(STDOUT_FILENO, b" ");
     io::print_decimal(STDOUT_FILENO, r.answer as u64);
     io::write_all(STDOUT_FILENO, b"\n");
-}
-
-// A number as a byte; one that is too large is 255, which no question takes.
-fn byte(x: u64) -> u8 {
-    if x < 256 { x as u8 } else { 255 }
 }
