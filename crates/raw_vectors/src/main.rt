@@ -25,7 +25,11 @@ fn answer_line(text: &[u8], at: usize) -> usize
     let significand = lines::number_at(text, first.next, 10);
     let parity = lines::number_at(text, significand.next, 10);
     let operation = plate::Operation(lines::byte(first.value));
-    show(plate::raw(operation, significand.value as u32, lines::byte(parity.value)));
+    show(plate::raw(
+        operation,
+        significand.value as u32,
+        lines::byte(parity.value),
+    ));
     parity.next
 }
 
