@@ -40,11 +40,10 @@ fn root(exponent: u32, fraction: u32) -> Neighbour
 {
     let x = scale(exponent, fraction);
     let y = x.significand;
-    let e = x.exponent + 107;
-    let p = e % 2;
+    let p = (x.exponent + 107) % 2;
     let g = raw::root(y as u32, p as u32) as u64;
     let r = floor::root(y, p, g);
-    lower(r.quotient, r.left != 0, e / 2)
+    lower(r.quotient, r.left != 0, (x.exponent + 107) / 2)
 }
 
 // −e is 2h − p, and 1 / √X is 1 / √(2^p × y / 2^23) × 2^h: the halving rounds up.

@@ -64,11 +64,12 @@ pub fn round(rounding: Rounding, sign: u32, n: Neighbour) -> Rounded
     let inexact = n.half | n.more;
     let overflow = n.beyond | (t == 0x7F80_0000);
     let underflow = (n.pattern < 0x80_0000) & inexact;
+    let flags = flag_if(overflow, Flag::OVERFLOW)
+        + flag_if(underflow, Flag::UNDERFLOW)
+        + flag_if(inexact, Flag::INEXACT);
     Rounded {
         bits: with_sign(sign, t),
-        flags: flag_if(overflow, Flag::OVERFLOW)
-            + flag_if(underflow, Flag::UNDERFLOW)
-            + flag_if(inexact, Flag::INEXACT),
+        flags,
     }
 }
 

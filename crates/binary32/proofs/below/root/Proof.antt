@@ -7,8 +7,8 @@ use Rattle.binary32.proofs.below.root.Tie as tie
 scale-requires : tie.Need-scale-requires
 scale-requires c κs = search needs
 
-add-e : tie.Need-add-e
-add-e c = search needs
+add-p : tie.Need-add-p
+add-p c = search needs
 
 cast-root : tie.Need-cast-root
 cast-root c = search needs
@@ -25,6 +25,9 @@ cast-g c = search needs
 root-requires-2 : tie.Need-root-requires-2
 root-requires-2 c κs = (search needs, search needs, search needs, search needs, search root-near)
 
+add-lower : tie.Need-add-lower
+add-lower c = search needs
+
 lower-requires : tie.Need-lower-requires
 lower-requires c κs = (search root-small, search needs)
 
@@ -36,11 +39,12 @@ root-spec =
     tie.close
     (tie.spec
     scale-requires
-    add-e
+    add-p
     cast-root
     cast-root-2
     root-requires
     cast-g
     root-requires-2
+    add-lower
     lower-requires
     returns)
