@@ -8,7 +8,7 @@ ghost use Rattle.words.specs.Joined.{joined};
 ghost use Rattle.cutter.specs.List.{countOf, recordAt, trailerBytes, listLength, listBytes};
 ghost use Rattle.cutter.specs.Call.{listRefusal, bufferAfter};
 ghost use Rattle.cutter.specs.Asked.{Halves, Ready};
-ghost use Rattle.cutter.specs.Reply.{nextOf, listReply};
+ghost use Rattle.cutter.specs.Reply.{rowBytes, listReply};
 
 pub mod door;
 pub mod heights;
@@ -48,16 +48,27 @@ fn put_list(rounding: Rounding, map: &[u8], out: &mut [u8]) -> usize
     ensures { λ r. ⌜ (r ≡ listLength (now (map .entry))) × (now (out .exit) ≡ splice 0 (listBytes (modeOf (rounding .0)) (now (map .entry))) (now (out .entry))) ⌝ }
 {
     let trailer = read_trailer(map);
-    put_points(rounding, map, out, trailer);
+    put_rounded(rounding, map, out, trailer);
     let end = 12 * ((trailer.width - 2) * (trailer.depth - 2));
     put_trailer(out, end, trailer);
     end + 16
 }
 
-// The column and the row of an inner point.
-pub struct Place {
-    pub column: usize,
-    pub row: usize,
+// The records of all inner points: one call for each rounding, so that the compiler makes a loop for each.
+fn put_rounded(rounding: Rounding, map: &[u8], out: &mut [u8], trailer: Trailer)
+    requires { ⌜ Ready (now map) trailer ⌝ }
+    requires { ⌜ 12 * ((trailer .width - 2) * (trailer .depth - 2)) ≤ length (now out) ⌝ }
+    ensures { λ _. ⌜ now (out .exit) ≡ splice 0 (joined (recordAt (modeOf (rounding .0)) (now (map .entry))) (countOf (trailer .width) (trailer .depth))) (now (out .entry)) ⌝ }
+{
+    if rounding.0 == Rounding::NEAREST.0 {
+        put_points(Rounding::NEAREST, map, out, trailer);
+    } else if rounding.0 == Rounding::UP.0 {
+        put_points(Rounding::UP, map, out, trailer);
+    } else if rounding.0 == Rounding::DOWN.0 {
+        put_points(Rounding::DOWN, map, out, trailer);
+    } else {
+        put_points(Rounding::TOWARD_ZERO, map, out, trailer);
+    }
 }
 
 // The records of all inner points, row by row, from the front on.
@@ -66,31 +77,27 @@ fn put_points(rounding: Rounding, map: &[u8], out: &mut [u8], trailer: Trailer)
     requires { ⌜ 12 * ((trailer .width - 2) * (trailer .depth - 2)) ≤ length (now out) ⌝ }
     ensures { λ _. ⌜ now (out .exit) ≡ splice 0 (joined (recordAt (modeOf (rounding .0)) (now (map .entry))) (countOf (trailer .width) (trailer .depth))) (now (out .entry)) ⌝ }
 {
-    let count = (trailer.width - 2) * (trailer.depth - 2);
-    let mut place = Place { column: 1, row: 1 };
-    let mut n: usize = 0;
-    while n < count {
-        put_point(rounding, map, out, trailer, place.column, place.row, 12 * n);
-        place = next_place(trailer.width, place);
-        n += 1;
+    let rows = trailer.depth - 2;
+    let mut row: usize = 0;
+    while row < rows {
+        put_row(rounding, map, out, trailer, row);
+        row += 1;
     }
 }
 
-// The inner point after a point, row by row.
-fn next_place(width: usize, place: Place) -> Place
-    requires { ⌜ (place .column < 64) × (place .row < 64) ⌝ }
-    ensures { λ r. ⌜ r ≡ nextOf width place ⌝ }
+// The records of one row of inner points, behind those of the rows before it.
+fn put_row(rounding: Rounding, map: &[u8], out: &mut [u8], trailer: Trailer, row: usize)
+    requires { ⌜ Ready (now map) trailer ⌝ }
+    requires { ⌜ row < trailer .depth - 2 ⌝ }
+    requires { ⌜ 12 * ((trailer .width - 2) * (trailer .depth - 2)) ≤ length (now out) ⌝ }
+    ensures { λ _. ⌜ now (out .exit) ≡ splice (row * (12 * (trailer .width - 2))) (rowBytes (modeOf (rounding .0)) (now (map .entry)) (trailer .width - 2) row) (now (out .entry)) ⌝ }
 {
-    if place.column + 2 < width {
-        Place {
-            column: place.column + 1,
-            row: place.row,
-        }
-    } else {
-        Place {
-            column: 1,
-            row: place.row + 1,
-        }
+    let count = trailer.width - 2;
+    let first = row * (12 * count);
+    let mut n: usize = 0;
+    while n < count {
+        put_point(rounding, map, out, trailer, n + 1, row + 1, first + n * 12);
+        n += 1;
     }
 }
 
