@@ -1,0 +1,326 @@
+-- One test settles n over √q, rounded: t and the next are told apart by where 2n over √q lies. Assumes nothing.
+use Prim.Native.Nat.{ℕ, suc, _+_, _-_, _*_, _/_, _%_, _^_, _≤_, _<_}
+use mathlib.Core.Path.{_≡_, refl, sym, ap, _∙_, subst}
+use mathlib.Core.Bool.{Bool, true, false, cond, not}
+use mathlib.Core.Logic.{by-cases}
+use native.Mathlib.Nat.{mul-le-mul, mul-le-mul-right, mod-lt, div-add-mod}
+use native.Mathlib.Numerals.{add-one}
+use native.Mathlib.Decide.{decLt, decLe}
+use native.Mathlib.Omega.{arith}
+use borrow.Author.Tests.{lt-ltb, le-ltb, eq-eqb, ne-eqb}
+use lib.Dec.{eqb, ltb}
+use mir.Syntax.{w64}
+use mir.Val.{Fits}
+use Rattle.kinds.specs.Rounding.{Mode, nearest, up, down, towardZero, modeOf, away, placeOf, roundedBy}
+use Rattle.offset.specs.Offset.{roundedOver}
+use Rattle.offset.specs.Inverse.{InverseOf, DoubledOver, Ranges, Sizes}
+use Rattle.offset.specs.Settled.{liftOf, tieOf, stepped, settledBy}
+use Rattle.offset.proofs.Start.{start-below, start-above, start-most}
+use Rattle.offset.proofs.Places.{rounded-is, offset-sizes, offset-most}
+
+-- the test, where 2n over √q is known by its floor and what is left
+module _ (n q floor left : ℕ) (pos : 0 < q) (doubled : DoubledOver n q floor left) (t m tie : ℕ) where
+  -- below the floor, or at it where something is left or a tie counts
+  goes-below : m < floor → stepped t m tie n q ≡ t + 1
+  unfolding stepped
+  goes-below h =
+      let e : m * m * q < 4 * (n * n) + tie = omega (arith, doubled .whole, mul-le-mul-right q (mul-le-mul h h)) in
+      simp (lt-ltb (m * m * q) (4 * (n * n) + tie) e)
+
+  goes-at : m ≡ floor → 0 < left + tie → stepped t m tie n q ≡ t + 1
+  unfolding stepped
+  goes-at e h =
+      let w : m * m * q + left ≡ 4 * (n * n) = subst (λ (x : ℕ). x * x * q + left ≡ 4 * (n * n)) (sym e) (doubled .whole) in
+      let g : m * m * q < 4 * (n * n) + tie = omega arith in
+      simp (lt-ltb (m * m * q) (4 * (n * n) + tie) g)
+
+  stays-above : floor < m → tie ≤ 1 → stepped t m tie n q ≡ t
+  unfolding stepped
+  stays-above h k =
+      let e : 4 * (n * n) + tie ≤ m * m * q = omega (arith, doubled .whole, doubled .last, mul-le-mul-right q (mul-le-mul h h)) in
+      simp (le-ltb (m * m * q) (4 * (n * n) + tie) e)
+
+  stays-at : m ≡ floor → left + tie ≡ 0 → stepped t m tie n q ≡ t
+  unfolding stepped
+  stays-at e h =
+      let w : m * m * q + left ≡ 4 * (n * n) = subst (λ (x : ℕ). x * x * q + left ≡ 4 * (n * n)) (sym e) (doubled .whole) in
+      let g : 4 * (n * n) + tie ≤ m * m * q = omega arith in
+      simp (le-ltb (m * m * q) (4 * (n * n) + tie) g)
+
+-- what a rounding does at a place
+module _ (t : ℕ) where
+  zero-stays : (negative a b : Bool) → roundedBy towardZero negative t (placeOf a b) ≡ t
+  unfolding roundedBy away
+  zero-stays negative false false = refl
+  zero-stays negative false true = refl
+  zero-stays negative true false = refl
+  zero-stays negative true true = refl
+
+  up-stays : (a b : Bool) → roundedBy up true t (placeOf a b) ≡ t
+  unfolding roundedBy away
+  up-stays false false = refl
+  up-stays false true = refl
+  up-stays true false = refl
+  up-stays true true = refl
+
+  down-stays : (a b : Bool) → roundedBy down false t (placeOf a b) ≡ t
+  unfolding roundedBy away
+  down-stays false false = refl
+  down-stays false true = refl
+  down-stays true false = refl
+  down-stays true true = refl
+
+  down-as-up : (a b : Bool) → roundedBy up false t (placeOf a b) ≡ roundedBy down true t (placeOf a b)
+  unfolding roundedBy away
+  down-as-up false false = refl
+  down-as-up false true = refl
+  down-as-up true false = refl
+  down-as-up true true = refl
+
+  up-exact : t ≡ roundedBy up false t (placeOf false false)
+  unfolding roundedBy away
+  up-exact = refl
+
+  up-below : suc t ≡ roundedBy up false t (placeOf false true)
+  unfolding roundedBy away
+  up-below = refl
+
+  up-odd : (b : Bool) → suc t ≡ roundedBy up false t (placeOf true b)
+  unfolding roundedBy away
+  up-odd false = refl
+  up-odd true = refl
+
+  nearest-even : (negative b : Bool) → t ≡ roundedBy nearest negative t (placeOf false b)
+  unfolding roundedBy away
+  nearest-even negative false = refl
+  nearest-even negative true = refl
+
+  nearest-above : (negative : Bool) → suc t ≡ roundedBy nearest negative t (placeOf true true)
+  unfolding roundedBy away
+  nearest-above negative = refl
+
+  nearest-half : (negative : Bool) → cond (eqb (t % 2) 1) (suc t) t ≡ roundedBy nearest negative t (placeOf true false)
+  unfolding roundedBy away
+  nearest-half negative = refl
+
+-- from a start that is the floor or one below it
+module _ (n q floor left start : ℕ) (pos : 0 < q) (doubled : DoubledOver n q floor left) (low : start ≤ floor) (high : floor ≤ start + 1) where
+  toward : settledBy 0 start n q ≡ floor / 2
+  unfolding settledBy tieOf
+  toward =
+      let t : ℕ = (start + 0) / 2 in
+      let m : ℕ = 2 * t + 2 - 0 in
+      by-cases (decLt floor m)
+      (λ h.
+      let e : t ≡ floor / 2 = omega arith in
+      stays-above n q floor left pos doubled t m 1 h (omega arith) ∙ e)
+      (λ h.
+      let e : t + 1 ≡ floor / 2 = omega arith in
+      goes-at n q floor left pos doubled t m 1 (omega arith) (omega arith) ∙ e)
+
+  outward : settledBy 2 start n q ≡ roundedBy up false (floor / 2) (placeOf (eqb (floor % 2) 1) (not (eqb left 0)))
+  unfolding settledBy tieOf
+  outward =
+      let t : ℕ = (start + 1) / 2 in
+      let m : ℕ = 2 * t + 2 - 2 in
+      by-cases (decLt floor m)
+      (λ h.
+      let e : t ≡ suc (floor / 2) = omega arith in
+      let o : floor % 2 ≡ 1 = omega arith in
+      stays-above n q floor left pos doubled t m 0 h (omega arith) ∙ simp (eq-eqb (floor % 2) 1 o) (e ∙ up-odd (floor / 2) (not (eqb left 0))))
+      (λ h.
+      by-cases (decLt m floor)
+      (λ k.
+      let e : t + 1 ≡ suc (floor / 2) = omega arith in
+      let o : floor % 2 ≡ 1 = omega arith in
+      goes-below n q floor left pos doubled t m 0 k ∙ simp (eq-eqb (floor % 2) 1 o) (e ∙ up-odd (floor / 2) (not (eqb left 0))))
+      (λ k.
+      let same : m ≡ floor = omega arith in
+      let z : floor % 2 ≡ 1 → ⊥ = λ x. omega arith in
+      by-cases (decLt 0 left)
+      (λ l.
+      let e : t + 1 ≡ suc (floor / 2) = omega arith in
+      goes-at n q floor left pos doubled t m 0 same (omega arith)
+      ∙ simp (ne-eqb (floor % 2) 1 z, ne-eqb left 0 (λ x. omega arith)) (e ∙ up-below (floor / 2)))
+      (λ l.
+      let e : t ≡ floor / 2 = omega arith in
+      stays-at n q floor left pos doubled t m 0 same (omega arith)
+      ∙ simp (ne-eqb (floor % 2) 1 z, eq-eqb left 0 (omega arith)) (e ∙ up-exact (floor / 2)))))
+
+  halfway : (negative : Bool) → settledBy 1 start n q ≡ roundedBy nearest negative (floor / 2) (placeOf (eqb (floor % 2) 1) (not (eqb left 0)))
+  unfolding settledBy tieOf
+  halfway negative =
+      let t : ℕ = (start + 0) / 2 in
+      let m : ℕ = 2 * t + 2 - 1 in
+      by-cases (decLt floor m)
+      (λ h.
+      let e : t ≡ floor / 2 = omega arith in
+      let z : floor % 2 ≡ 1 → ⊥ = λ x. omega arith in
+      stays-above n q floor left pos doubled t m (t % 2) h (omega arith)
+      ∙ simp (ne-eqb (floor % 2) 1 z) (e ∙ nearest-even (floor / 2) negative (not (eqb left 0))))
+      (λ h.
+      by-cases (decLt m floor)
+      (λ k.
+      let e : t + 1 ≡ floor / 2 = omega arith in
+      let z : floor % 2 ≡ 1 → ⊥ = λ x. omega arith in
+      goes-below n q floor left pos doubled t m (t % 2) k
+      ∙ simp (ne-eqb (floor % 2) 1 z) (e ∙ nearest-even (floor / 2) negative (not (eqb left 0))))
+      (λ k.
+      let same : m ≡ floor = omega arith in
+      let o : floor % 2 ≡ 1 = omega arith in
+      let f : floor / 2 ≡ t = omega arith in
+      by-cases (decLt 0 left)
+      (λ l.
+      let e : t + 1 ≡ suc (floor / 2) = omega arith in
+      goes-at n q floor left pos doubled t m (t % 2) same (omega arith)
+      ∙ simp (eq-eqb (floor % 2) 1 o, ne-eqb left 0 (λ x. omega arith)) (e ∙ nearest-above (floor / 2) negative))
+      (λ l.
+      by-cases (decLt 0 (t % 2))
+      (λ j.
+      let e : t + 1 ≡ suc (floor / 2) = omega arith in
+      let p : floor / 2 % 2 ≡ 1 = ap (λ (x : ℕ). x % 2) f ∙ omega arith in
+      goes-at n q floor left pos doubled t m (t % 2) same (omega arith)
+      ∙ simp (eq-eqb (floor % 2) 1 o, eq-eqb left 0 (omega arith))
+      (e ∙ sym (taken (eq-eqb (floor / 2 % 2) 1 p)) ∙ nearest-half (floor / 2) negative))
+      (λ j.
+      let e : t ≡ floor / 2 = omega arith in
+      let z : t % 2 ≡ 0 = omega arith in
+      let w : floor / 2 % 2 ≡ 0 = ap (λ (x : ℕ). x % 2) f ∙ z in
+      let p : floor / 2 % 2 ≡ 1 → ⊥ = λ x. omega arith in
+      stays-at n q floor left pos doubled t m (t % 2) same (omega arith)
+      ∙ simp (eq-eqb (floor % 2) 1 o, eq-eqb left 0 (omega arith))
+      (e ∙ sym (passed (ne-eqb (floor / 2 % 2) 1 p)) ∙ nearest-half (floor / 2) negative)))))
+    where
+      taken : eqb (floor / 2 % 2) 1 ≡ true → cond (eqb (floor / 2 % 2) 1) (suc (floor / 2)) (floor / 2) ≡ suc (floor / 2)
+      taken e = simp e
+
+      passed : eqb (floor / 2 % 2) 1 ≡ false → cond (eqb (floor / 2 % 2) 1) (suc (floor / 2)) (floor / 2) ≡ floor / 2
+      passed e = simp e
+
+  settled-at : (mode : Mode) (negative : Bool)
+      → settledBy (liftOf mode negative) start n q ≡ roundedBy mode negative (floor / 2) (placeOf (eqb (floor % 2) 1) (not (eqb left 0)))
+  unfolding liftOf
+  settled-at nearest negative = halfway negative
+  settled-at up false = outward
+  settled-at up true = toward ∙ sym (up-stays (floor / 2) (eqb (floor % 2) 1) (not (eqb left 0)))
+  settled-at down false = toward ∙ sym (down-stays (floor / 2) (eqb (floor % 2) 1) (not (eqb left 0)))
+  settled-at down true = outward ∙ down-as-up (floor / 2) (eqb (floor % 2) 1) (not (eqb left 0))
+  settled-at towardZero negative = toward ∙ sym (zero-stays (floor / 2) negative (eqb (floor % 2) 1) (not (eqb left 0)))
+
+-- the floor and what is left, which the code does not work out
+record Found (mode : Mode) (negative : Bool) (n q r : ℕ) : Type 0 where
+  floor : ℕ
+  left : ℕ
+  doubled : DoubledOver n q floor left
+  is : r ≡ roundedBy mode negative (floor / 2) (placeOf (eqb (floor % 2) 1) (not (eqb left 0)))
+
+module _ (mode : Mode) (negative : Bool) (lift low shift n q r : ℕ) (sizes : Sizes n q) (inverse : InverseOf q low shift)
+    (lifts : lift ≡ liftOf mode negative) (e : r ≡ settledBy lift (n * low / 2 ^ shift) n q) where
+  found : Found mode negative n q r
+  found =
+      let s : ℕ = n * low / 2 ^ shift in
+      let b : s * s * q ≤ 4 * (n * n) = start-below n q sizes low shift inverse in
+      let a : 4 * (n * n) < (s + 2) * (s + 2) * q = start-above n q sizes low shift inverse in
+      let r-is : r ≡ settledBy (liftOf mode negative) s n q = e ∙ ap (λ (x : ℕ). settledBy x s n q) lifts in
+      by-cases (decLe ((s + 1) * (s + 1) * q) (4 * (n * n)))
+      (λ h.
+      let left : ℕ = 4 * (n * n) - (s + 1) * (s + 1) * q in
+      let d : DoubledOver n q (s + 1) left = record { whole = omega arith; last = omega arith } in
+      record { floor = s + 1; left = left; doubled = d;
+        is = r-is ∙ settled-at n q (s + 1) left s (sizes .least) d (omega arith) (omega arith) mode negative })
+      (λ h.
+      let left : ℕ = 4 * (n * n) - s * s * q in
+      let d : DoubledOver n q s left = record { whole = omega arith; last = omega arith } in
+      record { floor = s; left = left; doubled = d;
+        is = r-is ∙ settled-at n q s left s (sizes .least) d (omega arith) (omega arith) mode negative })
+
+  pub settled-is : r ≡ roundedOver mode negative n q
+  settled-is = rounded-is n q (found .floor) (found .left) sizes (found .doubled) mode negative r (found .is)
+
+-- an offset is not longer than the radius
+pub settled-most : (mode : Mode) (negative : Bool) (lift low shift component radius q r : ℕ) → Ranges component radius q → InverseOf q low shift
+    → lift ≡ liftOf mode negative → r ≡ settledBy lift (component * radius * low / 2 ^ shift) (component * radius) q → r ≤ radius
+settled-most mode negative lift low shift component radius q r ranges inverse l e =
+    let f = found mode negative lift low shift (component * radius) q r (offset-sizes component radius q ranges) inverse l e in
+    offset-most component radius q ranges (f .floor) (f .left) (f .doubled) mode negative r (f .is)
+
+-- ---- the code's numbers
+
+pub lift-nearest : (r : ℕ) (negative : Bool) → r ≡ 0 → 1 ≡ liftOf (modeOf r) negative
+unfolding liftOf
+lift-nearest r negative e = simp (eq-eqb r 0 e)
+
+pub lift-outward : (r o : ℕ) (negative : Bool) → (r ≡ 0 → ⊥) → o ≡ cond negative 2 1 → r ≡ o → 2 ≡ liftOf (modeOf r) negative
+unfolding liftOf
+lift-outward r o false z e f = simp (ne-eqb r 0 z, eq-eqb r 1 (f ∙ e))
+lift-outward r o true z e f =
+    let two : r ≡ 2 = f ∙ e in
+    simp (ne-eqb r 0 z, ne-eqb r 1 (λ x. omega arith), eq-eqb r 2 two)
+
+pub lift-none : (r o : ℕ) (negative : Bool) → (r ≡ 0 → ⊥) → o ≡ cond negative 2 1 → (r ≡ o → ⊥) → 0 ≡ liftOf (modeOf r) negative
+unfolding liftOf
+lift-none r o false z e f = simp (ne-eqb r 0 z, ne-eqb r 1 (λ x. f (x ∙ sym e))) (go (eqb r 2))
+  where
+    go : (b : Bool) → 0 ≡ liftOf (cond b down towardZero) false
+    go true = refl
+    go false = refl
+lift-none r o true z e f = simp (ne-eqb r 0 z, ne-eqb r 2 (λ x. f (x ∙ sym e))) (go (eqb r 1))
+  where
+    go : (b : Bool) → 0 ≡ liftOf (cond b up towardZero) true
+    go true = refl
+    go false = refl
+
+pub tie-zero : (lift t : ℕ) → lift ≡ 0 → 1 ≡ tieOf lift t
+unfolding tieOf
+tie-zero lift t e = simp (eq-eqb lift 0 e)
+
+pub tie-even : (lift t : ℕ) → (lift ≡ 0 → ⊥) → lift ≡ 1 → t % 2 ≡ tieOf lift t
+unfolding tieOf
+tie-even lift t z e = simp (ne-eqb lift 0 z, eq-eqb lift 1 e)
+
+pub tie-none : (lift t : ℕ) → (lift ≡ 0 → ⊥) → (lift ≡ 1 → ⊥) → 0 ≡ tieOf lift t
+unfolding tieOf
+tie-none lift t z e = simp (ne-eqb lift 0 z, ne-eqb lift 1 e)
+
+module _ (lift start n q : ℕ) (most : lift ≤ 2) (sizes : Sizes n q) (below : start * start * q ≤ 4 * (n * n)) where
+  m-most : 2 * ((start + lift / 2) / 2) + 2 - lift ≤ start + 2
+  m-most = omega arith
+
+  pub sum-fits : Fits w64 (start + lift / 2)
+  sum-fits = omega (arith, start-most n q sizes start below)
+
+  pub double-fits : Fits w64 (2 * ((start + lift / 2) / 2))
+  double-fits = omega (arith, start-most n q sizes start below)
+
+  pub past-fits : Fits w64 (2 * ((start + lift / 2) / 2) + 2)
+  past-fits = omega (arith, start-most n q sizes start below)
+
+  pub next-fits : Fits w64 ((start + lift / 2) / 2 + 1)
+  next-fits = omega (arith, start-most n q sizes start below)
+
+  pub tie-fits : (tie : ℕ) → tie ≤ 1 → Fits w64 (4 * (n * n) + tie)
+  tie-fits tie h = omega (arith, mul-le-mul (sizes .product-most) (sizes .product-most))
+
+  pub m-square-fits : Fits w64 ((2 * ((start + lift / 2) / 2) + 2 - lift) * (2 * ((start + lift / 2) / 2) + 2 - lift))
+  m-square-fits = omega (arith, mul-le-mul m-most m-most, start-most n q sizes start below, mul-le-mul (start-most n q sizes start below) (start-most n q sizes start below))
+
+  pub m-product-fits : Fits w64 ((2 * ((start + lift / 2) / 2) + 2 - lift) * (2 * ((start + lift / 2) / 2) + 2 - lift) * q)
+  m-product-fits =
+      omega (arith, mul-le-mul-right q (mul-le-mul m-most m-most), mul-le-mul (start-most n q sizes start below) (sizes .most),
+      mul-le-mul (sizes .product-most) (sizes .product-most), sizes .most)
+
+  pub settled-yes : (tie : ℕ) → tie ≡ tieOf lift ((start + lift / 2) / 2)
+      → (2 * ((start + lift / 2) / 2) + 2 - lift) * (2 * ((start + lift / 2) / 2) + 2 - lift) * q < 4 * (n * n) + tie
+      → (start + lift / 2) / 2 + 1 ≡ settledBy lift start n q
+  unfolding settledBy stepped
+  settled-yes tie e h =
+      let m : ℕ = 2 * ((start + lift / 2) / 2) + 2 - lift in
+      simp (← e, lt-ltb (m * m * q) (4 * (n * n) + tie) h)
+
+  pub settled-no : (tie : ℕ) → tie ≡ tieOf lift ((start + lift / 2) / 2)
+      → 4 * (n * n) + tie ≤ (2 * ((start + lift / 2) / 2) + 2 - lift) * (2 * ((start + lift / 2) / 2) + 2 - lift) * q
+      → (start + lift / 2) / 2 ≡ settledBy lift start n q
+  unfolding settledBy stepped
+  settled-no tie e h =
+      let m : ℕ = 2 * ((start + lift / 2) / 2) + 2 - lift in
+      simp (← e, le-ltb (m * m * q) (4 * (n * n) + tie) h)
