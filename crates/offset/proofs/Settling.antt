@@ -14,7 +14,7 @@ use mir.Val.{Fits}
 use Rattle.kinds.specs.Rounding.{Mode, nearest, up, down, towardZero, modeOf, away, placeOf, roundedBy}
 use Rattle.offset.specs.Offset.{roundedOver}
 use Rattle.offset.specs.Inverse.{InverseOf, DoubledOver, Ranges, Sizes}
-use Rattle.offset.specs.Settled.{liftOf, tieOf, stepped, settledBy}
+use Rattle.offset.specs.Settled.{restOf, restBy, stepped, settledBy}
 use Rattle.offset.proofs.Start.{start-below, start-above, start-most}
 use Rattle.offset.proofs.Places.{rounded-is, offset-sizes, offset-most}
 
@@ -105,65 +105,68 @@ module _ (t : ℕ) where
 
 -- from a start that is the floor or one below it
 module _ (n q floor left start : ℕ) (pos : 0 < q) (doubled : DoubledOver n q floor left) (low : start ≤ floor) (high : floor ≤ start + 1) where
-  toward : settledBy 0 start n q ≡ floor / 2
-  unfolding settledBy tieOf
+  toward : settledBy 2 start n q ≡ floor / 2
+  unfolding settledBy
   toward =
       let t : ℕ = (start + 0) / 2 in
-      let m : ℕ = 2 * t + 2 - 0 in
+      let m : ℕ = 2 * t + 2 in
+      let tie : ℕ = (2 + t % 2) / 2 in
       by-cases (decLt floor m)
       (λ h.
       let e : t ≡ floor / 2 = omega arith in
-      stays-above n q floor left pos doubled t m 1 h (omega arith) ∙ e)
+      stays-above n q floor left pos doubled t m tie h (omega arith) ∙ e)
       (λ h.
       let e : t + 1 ≡ floor / 2 = omega arith in
-      goes-at n q floor left pos doubled t m 1 (omega arith) (omega arith) ∙ e)
+      goes-at n q floor left pos doubled t m tie (omega arith) (omega arith) ∙ e)
 
-  outward : settledBy 2 start n q ≡ roundedBy up false (floor / 2) (placeOf (eqb (floor % 2) 1) (not (eqb left 0)))
-  unfolding settledBy tieOf
+  outward : settledBy 0 start n q ≡ roundedBy up false (floor / 2) (placeOf (eqb (floor % 2) 1) (not (eqb left 0)))
+  unfolding settledBy
   outward =
       let t : ℕ = (start + 1) / 2 in
-      let m : ℕ = 2 * t + 2 - 2 in
+      let m : ℕ = 2 * t + 0 in
+      let tie : ℕ = (0 + t % 2) / 2 in
       by-cases (decLt floor m)
       (λ h.
       let e : t ≡ suc (floor / 2) = omega arith in
       let o : floor % 2 ≡ 1 = omega arith in
-      stays-above n q floor left pos doubled t m 0 h (omega arith) ∙ simp (eq-eqb (floor % 2) 1 o) (e ∙ up-odd (floor / 2) (not (eqb left 0))))
+      stays-above n q floor left pos doubled t m tie h (omega arith) ∙ simp (eq-eqb (floor % 2) 1 o) (e ∙ up-odd (floor / 2) (not (eqb left 0))))
       (λ h.
       by-cases (decLt m floor)
       (λ k.
       let e : t + 1 ≡ suc (floor / 2) = omega arith in
       let o : floor % 2 ≡ 1 = omega arith in
-      goes-below n q floor left pos doubled t m 0 k ∙ simp (eq-eqb (floor % 2) 1 o) (e ∙ up-odd (floor / 2) (not (eqb left 0))))
+      goes-below n q floor left pos doubled t m tie k ∙ simp (eq-eqb (floor % 2) 1 o) (e ∙ up-odd (floor / 2) (not (eqb left 0))))
       (λ k.
       let same : m ≡ floor = omega arith in
       let z : floor % 2 ≡ 1 → ⊥ = λ x. omega arith in
       by-cases (decLt 0 left)
       (λ l.
       let e : t + 1 ≡ suc (floor / 2) = omega arith in
-      goes-at n q floor left pos doubled t m 0 same (omega arith)
+      goes-at n q floor left pos doubled t m tie same (omega arith)
       ∙ simp (ne-eqb (floor % 2) 1 z, ne-eqb left 0 (λ x. omega arith)) (e ∙ up-below (floor / 2)))
       (λ l.
       let e : t ≡ floor / 2 = omega arith in
-      stays-at n q floor left pos doubled t m 0 same (omega arith)
+      stays-at n q floor left pos doubled t m tie same (omega arith)
       ∙ simp (ne-eqb (floor % 2) 1 z, eq-eqb left 0 (omega arith)) (e ∙ up-exact (floor / 2)))))
 
   halfway : (negative : Bool) → settledBy 1 start n q ≡ roundedBy nearest negative (floor / 2) (placeOf (eqb (floor % 2) 1) (not (eqb left 0)))
-  unfolding settledBy tieOf
+  unfolding settledBy
   halfway negative =
       let t : ℕ = (start + 0) / 2 in
-      let m : ℕ = 2 * t + 2 - 1 in
+      let m : ℕ = 2 * t + 1 in
+      let tie : ℕ = (1 + t % 2) / 2 in
       by-cases (decLt floor m)
       (λ h.
       let e : t ≡ floor / 2 = omega arith in
       let z : floor % 2 ≡ 1 → ⊥ = λ x. omega arith in
-      stays-above n q floor left pos doubled t m (t % 2) h (omega arith)
+      stays-above n q floor left pos doubled t m tie h (omega arith)
       ∙ simp (ne-eqb (floor % 2) 1 z) (e ∙ nearest-even (floor / 2) negative (not (eqb left 0))))
       (λ h.
       by-cases (decLt m floor)
       (λ k.
       let e : t + 1 ≡ floor / 2 = omega arith in
       let z : floor % 2 ≡ 1 → ⊥ = λ x. omega arith in
-      goes-below n q floor left pos doubled t m (t % 2) k
+      goes-below n q floor left pos doubled t m tie k
       ∙ simp (ne-eqb (floor % 2) 1 z) (e ∙ nearest-even (floor / 2) negative (not (eqb left 0))))
       (λ k.
       let same : m ≡ floor = omega arith in
@@ -172,14 +175,14 @@ module _ (n q floor left start : ℕ) (pos : 0 < q) (doubled : DoubledOver n q f
       by-cases (decLt 0 left)
       (λ l.
       let e : t + 1 ≡ suc (floor / 2) = omega arith in
-      goes-at n q floor left pos doubled t m (t % 2) same (omega arith)
+      goes-at n q floor left pos doubled t m tie same (omega arith)
       ∙ simp (eq-eqb (floor % 2) 1 o, ne-eqb left 0 (λ x. omega arith)) (e ∙ nearest-above (floor / 2) negative))
       (λ l.
       by-cases (decLt 0 (t % 2))
       (λ j.
       let e : t + 1 ≡ suc (floor / 2) = omega arith in
       let p : floor / 2 % 2 ≡ 1 = ap (λ (x : ℕ). x % 2) f ∙ omega arith in
-      goes-at n q floor left pos doubled t m (t % 2) same (omega arith)
+      goes-at n q floor left pos doubled t m tie same (omega arith)
       ∙ simp (eq-eqb (floor % 2) 1 o, eq-eqb left 0 (omega arith))
       (e ∙ sym (taken (eq-eqb (floor / 2 % 2) 1 p)) ∙ nearest-half (floor / 2) negative))
       (λ j.
@@ -187,7 +190,7 @@ module _ (n q floor left start : ℕ) (pos : 0 < q) (doubled : DoubledOver n q f
       let z : t % 2 ≡ 0 = omega arith in
       let w : floor / 2 % 2 ≡ 0 = ap (λ (x : ℕ). x % 2) f ∙ z in
       let p : floor / 2 % 2 ≡ 1 → ⊥ = λ x. omega arith in
-      stays-at n q floor left pos doubled t m (t % 2) same (omega arith)
+      stays-at n q floor left pos doubled t m tie same (omega arith)
       ∙ simp (eq-eqb (floor % 2) 1 o, eq-eqb left 0 (omega arith))
       (e ∙ sym (passed (ne-eqb (floor / 2 % 2) 1 p)) ∙ nearest-half (floor / 2) negative)))))
     where
@@ -198,8 +201,8 @@ module _ (n q floor left start : ℕ) (pos : 0 < q) (doubled : DoubledOver n q f
       passed e = simp e
 
   settled-at : (mode : Mode) (negative : Bool)
-      → settledBy (liftOf mode negative) start n q ≡ roundedBy mode negative (floor / 2) (placeOf (eqb (floor % 2) 1) (not (eqb left 0)))
-  unfolding liftOf
+      → settledBy (restOf mode negative) start n q ≡ roundedBy mode negative (floor / 2) (placeOf (eqb (floor % 2) 1) (not (eqb left 0)))
+  unfolding restOf
   settled-at nearest negative = halfway negative
   settled-at up false = outward
   settled-at up true = toward ∙ sym (up-stays (floor / 2) (eqb (floor % 2) 1) (not (eqb left 0)))
@@ -214,14 +217,14 @@ record Found (mode : Mode) (negative : Bool) (n q r : ℕ) : Type 0 where
   doubled : DoubledOver n q floor left
   is : r ≡ roundedBy mode negative (floor / 2) (placeOf (eqb (floor % 2) 1) (not (eqb left 0)))
 
-module _ (mode : Mode) (negative : Bool) (lift low shift n q r : ℕ) (sizes : Sizes n q) (inverse : InverseOf q low shift)
-    (lifts : lift ≡ liftOf mode negative) (e : r ≡ settledBy lift (n * low / 2 ^ shift) n q) where
+module _ (mode : Mode) (negative : Bool) (rest low shift n q r : ℕ) (sizes : Sizes n q) (inverse : InverseOf q low shift)
+    (rests : rest ≡ restOf mode negative) (e : r ≡ settledBy rest (n * low / 2 ^ shift) n q) where
   found : Found mode negative n q r
   found =
       let s : ℕ = n * low / 2 ^ shift in
       let b : s * s * q ≤ 4 * (n * n) = start-below n q sizes low shift inverse in
       let a : 4 * (n * n) < (s + 2) * (s + 2) * q = start-above n q sizes low shift inverse in
-      let r-is : r ≡ settledBy (liftOf mode negative) s n q = e ∙ ap (λ (x : ℕ). settledBy x s n q) lifts in
+      let r-is : r ≡ settledBy (restOf mode negative) s n q = e ∙ ap (λ (x : ℕ). settledBy x s n q) rests in
       by-cases (decLe ((s + 1) * (s + 1) * q) (4 * (n * n)))
       (λ h.
       let left : ℕ = 4 * (n * n) - (s + 1) * (s + 1) * q in
@@ -238,89 +241,98 @@ module _ (mode : Mode) (negative : Bool) (lift low shift n q r : ℕ) (sizes : S
   settled-is = rounded-is n q (found .floor) (found .left) sizes (found .doubled) mode negative r (found .is)
 
 -- an offset is not longer than the radius
-pub settled-most : (mode : Mode) (negative : Bool) (lift low shift component radius q r : ℕ) → Ranges component radius q → InverseOf q low shift
-    → lift ≡ liftOf mode negative → r ≡ settledBy lift (component * radius * low / 2 ^ shift) (component * radius) q → r ≤ radius
-settled-most mode negative lift low shift component radius q r ranges inverse l e =
-    let f = found mode negative lift low shift (component * radius) q r (offset-sizes component radius q ranges) inverse l e in
+pub settled-most : (mode : Mode) (negative : Bool) (rest low shift component radius q r : ℕ) → Ranges component radius q → InverseOf q low shift
+    → rest ≡ restOf mode negative → r ≡ settledBy rest (component * radius * low / 2 ^ shift) (component * radius) q → r ≤ radius
+settled-most mode negative rest low shift component radius q r ranges inverse l e =
+    let f = found mode negative rest low shift (component * radius) q r (offset-sizes component radius q ranges) inverse l e in
     offset-most component radius q ranges (f .floor) (f .left) (f .doubled) mode negative r (f .is)
 
 -- ---- the code's numbers
 
-pub lift-nearest : (r : ℕ) (negative : Bool) → r ≡ 0 → 1 ≡ liftOf (modeOf r) negative
-unfolding liftOf
-lift-nearest r negative e = simp (eq-eqb r 0 e)
+pub rest-nearest : (r o : ℕ) → r ≡ 0 → 1 ≡ restBy r o
+unfolding restBy
+rest-nearest r o e = simp (eq-eqb r 0 e)
 
-pub lift-outward : (r o : ℕ) (negative : Bool) → (r ≡ 0 → ⊥) → o ≡ cond negative 2 1 → r ≡ o → 2 ≡ liftOf (modeOf r) negative
-unfolding liftOf
-lift-outward r o false z e f = simp (ne-eqb r 0 z, eq-eqb r 1 (f ∙ e))
-lift-outward r o true z e f =
-    let two : r ≡ 2 = f ∙ e in
-    simp (ne-eqb r 0 z, ne-eqb r 1 (λ x. omega arith), eq-eqb r 2 two)
+pub rest-outward : (r o : ℕ) → (r ≡ 0 → ⊥) → r ≡ o → 0 ≡ restBy r o
+unfolding restBy
+rest-outward r o z e = simp (ne-eqb r 0 z, eq-eqb r o e)
 
-pub lift-none : (r o : ℕ) (negative : Bool) → (r ≡ 0 → ⊥) → o ≡ cond negative 2 1 → (r ≡ o → ⊥) → 0 ≡ liftOf (modeOf r) negative
-unfolding liftOf
-lift-none r o false z e f = simp (ne-eqb r 0 z, ne-eqb r 1 (λ x. f (x ∙ sym e))) (go (eqb r 2))
+pub rest-whole : (r o : ℕ) → (r ≡ 0 → ⊥) → (r ≡ o → ⊥) → 2 ≡ restBy r o
+unfolding restBy
+rest-whole r o z e = simp (ne-eqb r 0 z, ne-eqb r o e)
+
+-- up goes away from zero above it, and down below it
+pub rest-above : (r x : ℕ) (negative : Bool) → negative ≡ false → x ≡ restBy r 1 → x ≡ restOf (modeOf r) negative
+unfolding restBy restOf
+rest-above r x negative p e = e ∙ go (eqb r 0) (eqb r 1) (eqb r 2) ∙ ap (restOf (modeOf r)) (sym p)
   where
-    go : (b : Bool) → 0 ≡ liftOf (cond b down towardZero) false
+    go : (a b c : Bool) → cond a 1 (cond b 0 2) ≡ restOf (cond a nearest (cond b up (cond c down towardZero))) false
+    go true b c = refl
+    go false true c = refl
+    go false false true = refl
+    go false false false = refl
+
+below-zero : (r x : ℕ) → x ≡ restBy r 2 → x ≡ restOf (modeOf r) true
+unfolding restBy restOf
+below-zero r x e =
+    by-cases (decLt r 1)
+    (λ h. e ∙ simp (eq-eqb r 0 (omega arith)))
+    (λ h.
+    by-cases (decLt 1 r)
+    (λ k. e ∙ simp (ne-eqb r 0 (λ x. omega arith), ne-eqb r 1 (λ x. omega arith)) (go (eqb r 2)))
+    (λ k. e ∙ simp (ne-eqb r 0 (λ x. omega arith), eq-eqb r 1 (omega arith), ne-eqb r 2 (λ x. omega arith))))
+  where
+    go : (c : Bool) → cond c 0 2 ≡ restOf (cond c down towardZero) true
     go true = refl
     go false = refl
-lift-none r o true z e f = simp (ne-eqb r 0 z, ne-eqb r 2 (λ x. f (x ∙ sym e))) (go (eqb r 1))
-  where
-    go : (b : Bool) → 0 ≡ liftOf (cond b up towardZero) true
-    go true = refl
-    go false = refl
 
-pub tie-zero : (lift t : ℕ) → lift ≡ 0 → 1 ≡ tieOf lift t
-unfolding tieOf
-tie-zero lift t e = simp (eq-eqb lift 0 e)
+pub rest-below : (r x : ℕ) (negative : Bool) → negative ≡ true → x ≡ restBy r 2 → x ≡ restOf (modeOf r) negative
+rest-below r x negative p e = below-zero r x e ∙ ap (restOf (modeOf r)) (sym p)
 
-pub tie-even : (lift t : ℕ) → (lift ≡ 0 → ⊥) → lift ≡ 1 → t % 2 ≡ tieOf lift t
-unfolding tieOf
-tie-even lift t z e = simp (ne-eqb lift 0 z, eq-eqb lift 1 e)
+module _ (rest start n q : ℕ) (most : rest ≤ 2) (sizes : Sizes n q) (below : start * start * q ≤ 4 * (n * n)) where
+  start-small : start ≤ 25000
+  start-small = start-most n q sizes start below
 
-pub tie-none : (lift t : ℕ) → (lift ≡ 0 → ⊥) → (lift ≡ 1 → ⊥) → 0 ≡ tieOf lift t
-unfolding tieOf
-tie-none lift t z e = simp (ne-eqb lift 0 z, ne-eqb lift 1 e)
-
-module _ (lift start n q : ℕ) (most : lift ≤ 2) (sizes : Sizes n q) (below : start * start * q ≤ 4 * (n * n)) where
-  m-most : 2 * ((start + lift / 2) / 2) + 2 - lift ≤ start + 2
+  m-most : 2 * ((start + (2 - rest) / 2) / 2) + rest ≤ start + 2
   m-most = omega arith
 
-  pub sum-fits : Fits w64 (start + lift / 2)
-  sum-fits = omega (arith, start-most n q sizes start below)
+  pub sum-fits : Fits w64 (start + (2 - rest) / 2)
+  sum-fits = omega (arith, start-small)
 
-  pub double-fits : Fits w64 (2 * ((start + lift / 2) / 2))
-  double-fits = omega (arith, start-most n q sizes start below)
+  pub double-fits : Fits w64 (2 * ((start + (2 - rest) / 2) / 2))
+  double-fits = omega (arith, start-small)
 
-  pub past-fits : Fits w64 (2 * ((start + lift / 2) / 2) + 2)
-  past-fits = omega (arith, start-most n q sizes start below)
+  pub middle-fits : Fits w64 (2 * ((start + (2 - rest) / 2) / 2) + rest)
+  middle-fits = omega (arith, start-small)
 
-  pub next-fits : Fits w64 ((start + lift / 2) / 2 + 1)
-  next-fits = omega (arith, start-most n q sizes start below)
+  pub next-fits : Fits w64 ((start + (2 - rest) / 2) / 2 + 1)
+  next-fits = omega (arith, start-small)
 
-  pub tie-fits : (tie : ℕ) → tie ≤ 1 → Fits w64 (4 * (n * n) + tie)
-  tie-fits tie h = omega (arith, mul-le-mul (sizes .product-most) (sizes .product-most))
+  pub square-fits : Fits w64 ((2 * ((start + (2 - rest) / 2) / 2) + rest) * (2 * ((start + (2 - rest) / 2) / 2) + rest))
+  square-fits = omega (arith, mul-le-mul m-most m-most, start-small, mul-le-mul start-small start-small)
 
-  pub m-square-fits : Fits w64 ((2 * ((start + lift / 2) / 2) + 2 - lift) * (2 * ((start + lift / 2) / 2) + 2 - lift))
-  m-square-fits = omega (arith, mul-le-mul m-most m-most, start-most n q sizes start below, mul-le-mul (start-most n q sizes start below) (start-most n q sizes start below))
-
-  pub m-product-fits : Fits w64 ((2 * ((start + lift / 2) / 2) + 2 - lift) * (2 * ((start + lift / 2) / 2) + 2 - lift) * q)
-  m-product-fits =
-      omega (arith, mul-le-mul-right q (mul-le-mul m-most m-most), mul-le-mul (start-most n q sizes start below) (sizes .most),
+  pub product-fits : Fits w64 ((2 * ((start + (2 - rest) / 2) / 2) + rest) * (2 * ((start + (2 - rest) / 2) / 2) + rest) * q)
+  product-fits =
+      omega (arith, mul-le-mul-right q (mul-le-mul m-most m-most), mul-le-mul start-small (sizes .most),
       mul-le-mul (sizes .product-most) (sizes .product-most), sizes .most)
 
-  pub settled-yes : (tie : ℕ) → tie ≡ tieOf lift ((start + lift / 2) / 2)
-      → (2 * ((start + lift / 2) / 2) + 2 - lift) * (2 * ((start + lift / 2) / 2) + 2 - lift) * q < 4 * (n * n) + tie
-      → (start + lift / 2) / 2 + 1 ≡ settledBy lift start n q
-  unfolding settledBy stepped
-  settled-yes tie e h =
-      let m : ℕ = 2 * ((start + lift / 2) / 2) + 2 - lift in
-      simp (← e, lt-ltb (m * m * q) (4 * (n * n) + tie) h)
+  pub limit-fits : Fits w64 (4 * (n * n) + (rest + (start + (2 - rest) / 2) / 2 % 2) / 2)
+  limit-fits = omega (arith, mul-le-mul (sizes .product-most) (sizes .product-most))
 
-  pub settled-no : (tie : ℕ) → tie ≡ tieOf lift ((start + lift / 2) / 2)
-      → 4 * (n * n) + tie ≤ (2 * ((start + lift / 2) / 2) + 2 - lift) * (2 * ((start + lift / 2) / 2) + 2 - lift) * q
-      → (start + lift / 2) / 2 ≡ settledBy lift start n q
+  pub settled-next : (2 * ((start + (2 - rest) / 2) / 2) + rest) * (2 * ((start + (2 - rest) / 2) / 2) + rest) * q
+      < 4 * (n * n) + (rest + (start + (2 - rest) / 2) / 2 % 2) / 2
+      → (start + (2 - rest) / 2) / 2 + 1 ≡ settledBy rest start n q
   unfolding settledBy stepped
-  settled-no tie e h =
-      let m : ℕ = 2 * ((start + lift / 2) / 2) + 2 - lift in
-      simp (← e, le-ltb (m * m * q) (4 * (n * n) + tie) h)
+  settled-next h =
+      let t : ℕ = (start + (2 - rest) / 2) / 2 in
+      let m : ℕ = 2 * t + rest in
+      simp (lt-ltb (m * m * q) (4 * (n * n) + (rest + t % 2) / 2) h)
+
+  pub settled-same : 4 * (n * n) + (rest + (start + (2 - rest) / 2) / 2 % 2) / 2
+      ≤ (2 * ((start + (2 - rest) / 2) / 2) + rest) * (2 * ((start + (2 - rest) / 2) / 2) + rest) * q
+      → (start + (2 - rest) / 2) / 2 ≡ settledBy rest start n q
+  unfolding settledBy stepped
+  settled-same h =
+      let t : ℕ = (start + (2 - rest) / 2) / 2 in
+      let m : ℕ = 2 * t + rest in
+      simp (le-ltb (m * m * q) (4 * (n * n) + (rest + t % 2) / 2) h)

@@ -4,25 +4,25 @@ use mathlib.Core.Bool.{Bool, true, false, cond}
 use lib.Dec.{eqb, ltb}
 use Rattle.kinds.specs.Rounding.{Mode, nearest, up, down, towardZero}
 
--- where a rounding goes between two neighbours, in halves: 2 away from zero, 1 to the nearest, 0 toward zero
-unfoldable pub liftOf : Mode → Bool → ℕ
-liftOf nearest negative = 1
-liftOf up false = 2
-liftOf up true = 0
-liftOf down false = 0
-liftOf down true = 2
-liftOf towardZero negative = 0
+-- what a rounding leaves of the way between two neighbours, in halves: 0 away from zero, 1 to the nearest, 2 toward zero
+unfoldable pub restOf : Mode → Bool → ℕ
+restOf nearest negative = 1
+restOf up false = 0
+restOf up true = 2
+restOf down false = 2
+restOf down true = 0
+restOf towardZero negative = 2
 
--- 1 where a magnitude that reaches the limit goes on to the next
-unfoldable pub tieOf : ℕ → ℕ → ℕ
-tieOf lift t = cond (eqb lift 0) 1 (cond (eqb lift 1) (t % 2) 0)
+-- the same by the rounding's number and that of the rounding that goes away from zero
+unfoldable pub restBy : ℕ → ℕ → ℕ
+restBy r outward = cond (eqb r 0) 1 (cond (eqb r outward) 0 2)
 
 -- t or the next, by m²·q against 4·n²
 unfoldable pub stepped : ℕ → ℕ → ℕ → ℕ → ℕ → ℕ
 stepped t m tie n q = cond (ltb (m * m * q) (4 * (n * n) + tie)) (t + 1) t
 
--- the same from the start
+-- the same from the start; a magnitude that reaches the limit goes on toward zero, and to the nearest where that is even
 unfoldable pub settledBy : ℕ → ℕ → ℕ → ℕ → ℕ
-settledBy lift start n q =
-    let t = (start + lift / 2) / 2 in
-    stepped t (2 * t + 2 - lift) (tieOf lift t) n q
+settledBy rest start n q =
+    let t = (start + (2 - rest) / 2) / 2 in
+    stepped t (2 * t + rest) ((rest + t % 2) / 2) n q

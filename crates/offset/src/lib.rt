@@ -2,12 +2,11 @@
 // is a little too small gives a start, one test of squares decides.
 use kinds::Rounding;
 ghost use mathlib.Core.Path.{_≡_};
-ghost use mathlib.Core.Bool.{cond};
 ghost use Prim.Native.Nat.{_*_, _^_, _≤_, _<_};
 ghost use Rattle.kinds.specs.Rounding.{modeOf};
 ghost use Rattle.offset.specs.Offset.{roundedOver};
 ghost use Rattle.offset.specs.Inverse.{InverseOf, Ranges, Sizes};
-ghost use Rattle.offset.specs.Settled.{liftOf, tieOf, settledBy};
+ghost use Rattle.offset.specs.Settled.{restOf, restBy, settledBy};
 
 // 1 over √q from below, worked out once for a point: it is at least low over 2^(shift + 1), and at most (low + 32)
 // over that power.
@@ -46,52 +45,41 @@ pub fn rounded_over(
 {
     let n = component * radius;
     let start = (n * inverse.low) >> inverse.shift;
-    settled(lift_of(rounding, negative), start, n, q)
+    settled(rest_of(rounding, negative), start, n, q)
 }
 
-// Where a rounding goes between two neighbours, in halves: 2 away from zero, 1 to the nearest, 0 toward zero.
-fn lift_of(rounding: Rounding, negative: bool) -> u64
-    ensures { λ r. ⌜ (r ≡ liftOf (modeOf (rounding .0)) negative) × (r ≤ 2) ⌝ }
+// What a rounding leaves of the way between two neighbours, in halves: 0 away from zero, 1 to the nearest, 2 toward zero.
+fn rest_of(rounding: Rounding, negative: bool) -> u64
+    ensures { λ r. ⌜ (r ≡ restOf (modeOf (rounding .0)) negative) × (r ≤ 2) ⌝ }
 {
-    let outward = outward_of(negative);
+    let above = rest_by(rounding, Rounding::UP);
+    let below = rest_by(rounding, Rounding::DOWN);
+    if negative { below } else { above }
+}
+
+// The same, where `outward` is the rounding that goes away from zero.
+fn rest_by(rounding: Rounding, outward: Rounding) -> u64
+    ensures { λ r. ⌜ (r ≡ restBy (rounding .0) (outward .0)) × (r ≤ 2) ⌝ }
+{
     if rounding.0 == Rounding::NEAREST.0 {
         1
     } else if rounding.0 == outward.0 {
+        0
+    } else {
         2
-    } else {
-        0
     }
 }
 
-// The rounding that goes away from zero.
-fn outward_of(negative: bool) -> Rounding
-    ensures { λ r. ⌜ r .0 ≡ cond negative 2 1 ⌝ }
-{
-    if negative { Rounding::DOWN } else { Rounding::UP }
-}
-
-// Whether a magnitude that reaches the limit goes on to the next: toward zero it does, and at a tie where that is even.
-fn tie_of(lift: u64, t: u64) -> u64
-    ensures { λ r. ⌜ (r ≡ tieOf lift t) × (r ≤ 1) ⌝ }
-{
-    if lift == 0 {
-        1
-    } else if lift == 1 {
-        t % 2
-    } else {
-        0
-    }
-}
-
-// From a start that is 2n over √q, floored, or one below it: t is the magnitude or one below it, and one test decides.
-fn settled(lift: u64, start: u64, n: u64, q: u64) -> u64
-    requires { ⌜ lift ≤ 2 ⌝ }
+// From a start that is 2n over √q, floored, or one below it: t is the magnitude or one below it, and one test decides. A magnitude that
+// reaches the limit goes on toward zero, and to the nearest where that is even.
+fn settled(rest: u64, start: u64, n: u64, q: u64) -> u64
+    requires { ⌜ rest ≤ 2 ⌝ }
     requires { ⌜ Sizes n q × (start * start * q ≤ 4 * (n * n)) ⌝ }
-    ensures { λ r. ⌜ r ≡ settledBy lift start n q ⌝ }
+    ensures { λ r. ⌜ r ≡ settledBy rest start n q ⌝ }
 {
-    let t = (start + lift / 2) / 2;
-    let m = 2 * t + 2 - lift;
-    if m * m * q < 4 * (n * n) + tie_of(lift, t) {
+    let t = (start + (2 - rest) / 2) / 2;
+    let m = 2 * t + rest;
+    if m * m * q < 4 * (n * n) + (rest + t % 2) / 2 {
         t + 1
     } else {
         t
