@@ -217,34 +217,33 @@ record Found (mode : Mode) (negative : Bool) (n q r : ℕ) : Type 0 where
   doubled : DoubledOver n q floor left
   is : r ≡ roundedBy mode negative (floor / 2) (placeOf (eqb (floor % 2) 1) (not (eqb left 0)))
 
-module _ (mode : Mode) (negative : Bool) (rest low shift n q r : ℕ) (sizes : Sizes n q) (inverse : InverseOf q low shift)
-    (rests : rest ≡ restOf mode negative) (e : r ≡ settledBy rest (n * low / 2 ^ shift) n q) where
+module _ (mode : Mode) (negative : Bool) (low shift n q r : ℕ) (sizes : Sizes n q) (inverse : InverseOf q low shift)
+    (e : r ≡ settledBy (restOf mode negative) (n * low / 2 ^ shift) n q) where
   found : Found mode negative n q r
   found =
       let s : ℕ = n * low / 2 ^ shift in
       let b : s * s * q ≤ 4 * (n * n) = start-below n q sizes low shift inverse in
       let a : 4 * (n * n) < (s + 2) * (s + 2) * q = start-above n q sizes low shift inverse in
-      let r-is : r ≡ settledBy (restOf mode negative) s n q = e ∙ ap (λ (x : ℕ). settledBy x s n q) rests in
       by-cases (decLe ((s + 1) * (s + 1) * q) (4 * (n * n)))
       (λ h.
       let left : ℕ = 4 * (n * n) - (s + 1) * (s + 1) * q in
       let d : DoubledOver n q (s + 1) left = record { whole = omega arith; last = omega arith } in
       record { floor = s + 1; left = left; doubled = d;
-        is = r-is ∙ settled-at n q (s + 1) left s (sizes .least) d (omega arith) (omega arith) mode negative })
+        is = e ∙ settled-at n q (s + 1) left s (sizes .least) d (omega arith) (omega arith) mode negative })
       (λ h.
       let left : ℕ = 4 * (n * n) - s * s * q in
       let d : DoubledOver n q s left = record { whole = omega arith; last = omega arith } in
       record { floor = s; left = left; doubled = d;
-        is = r-is ∙ settled-at n q s left s (sizes .least) d (omega arith) (omega arith) mode negative })
+        is = e ∙ settled-at n q s left s (sizes .least) d (omega arith) (omega arith) mode negative })
 
   pub settled-is : r ≡ roundedOver mode negative n q
   settled-is = rounded-is n q (found .floor) (found .left) sizes (found .doubled) mode negative r (found .is)
 
 -- an offset is not longer than the radius
-pub settled-most : (mode : Mode) (negative : Bool) (rest low shift component radius q r : ℕ) → Ranges component radius q → InverseOf q low shift
-    → rest ≡ restOf mode negative → r ≡ settledBy rest (component * radius * low / 2 ^ shift) (component * radius) q → r ≤ radius
-settled-most mode negative rest low shift component radius q r ranges inverse l e =
-    let f = found mode negative rest low shift (component * radius) q r (offset-sizes component radius q ranges) inverse l e in
+pub settled-most : (mode : Mode) (negative : Bool) (low shift component radius q r : ℕ) → Ranges component radius q → InverseOf q low shift
+    → r ≡ settledBy (restOf mode negative) (component * radius * low / 2 ^ shift) (component * radius) q → r ≤ radius
+settled-most mode negative low shift component radius q r ranges inverse e =
+    let f = found mode negative low shift (component * radius) q r (offset-sizes component radius q ranges) inverse e in
     offset-most component radius q ranges (f .floor) (f .left) (f .doubled) mode negative r (f .is)
 
 -- ---- the code's numbers
@@ -288,6 +287,19 @@ below-zero r x e =
 
 pub rest-below : (r x : ℕ) (negative : Bool) → negative ≡ true → x ≡ restBy r 2 → x ≡ restOf (modeOf r) negative
 rest-below r x negative p e = below-zero r x e ∙ ap (restOf (modeOf r)) (sym p)
+
+module _ (r : ℕ) (negative : Bool) (start n q x : ℕ) where
+  pub by-nearest : r ≡ 0 → x ≡ settledBy 1 start n q → x ≡ settledBy (restOf (modeOf r) negative) start n q
+  unfolding restOf
+  by-nearest z e = e ∙ ap (λ (y : ℕ). settledBy (restOf (modeOf y) negative) start n q) (sym z)
+
+  pub by-zero : r ≡ 3 → x ≡ settledBy 2 start n q → x ≡ settledBy (restOf (modeOf r) negative) start n q
+  unfolding restOf
+  by-zero z e = e ∙ ap (λ (y : ℕ). settledBy (restOf (modeOf y) negative) start n q) (sym z)
+
+  pub by-rest : (rest : ℕ) → rest ≡ restOf (modeOf r) negative → x ≡ settledBy rest start n q
+      → x ≡ settledBy (restOf (modeOf r) negative) start n q
+  by-rest rest z e = e ∙ ap (λ (y : ℕ). settledBy y start n q) z
 
 module _ (rest start n q : ℕ) (most : rest ≤ 2) (sizes : Sizes n q) (below : start * start * q ≤ 4 * (n * n)) where
   start-small : start ≤ 25000

@@ -45,7 +45,21 @@ pub fn rounded_over(
 {
     let n = component * radius;
     let start = (n * inverse.low) >> inverse.shift;
-    settled(rest_of(rounding, negative), start, n, q)
+    settled_by(rounding, negative, start, n, q)
+}
+
+// The magnitude from a start, by the rounding. The first two have numbers of their own, which makes their tests shorter.
+fn settled_by(rounding: Rounding, negative: bool, start: u64, n: u64, q: u64) -> u64
+    requires { ⌜ Sizes n q × (start * start * q ≤ 4 * (n * n)) ⌝ }
+    ensures { λ r. ⌜ r ≡ settledBy (restOf (modeOf (rounding .0)) negative) start n q ⌝ }
+{
+    if rounding.0 == Rounding::NEAREST.0 {
+        settled(1, start, n, q)
+    } else if rounding.0 == Rounding::TOWARD_ZERO.0 {
+        settled(2, start, n, q)
+    } else {
+        settled(rest_of(rounding, negative), start, n, q)
+    }
 }
 
 // What a rounding leaves of the way between two neighbours, in halves: 0 away from zero, 1 to the nearest, 2 toward zero.

@@ -18,11 +18,8 @@ cast-start c = search needs
 shr-start : tie.Need-shr-start
 shr-start c = search needs
 
-rest-of-requires : tie.Need-rest-of-requires
-rest-of-requires c κs = search needs
-
-settled-requires : tie.Need-settled-requires
-settled-requires c κs = (search needs, (search offset-sizes, search (start-below, offset-sizes)))
+settled-by-requires : tie.Need-settled-by-requires
+settled-by-requires c κs = (search offset-sizes, search (start-below, offset-sizes))
 
 returns : tie.Need-returns
 returns c = (search (settled-is, offset-sizes), search settled-most)
@@ -30,4 +27,4 @@ returns c = (search (settled-is, offset-sizes), search settled-most)
 pub rounded-over-spec : {M : Type 1} → statement M
 rounded-over-spec =
     tie.close
-    (tie.spec mul-n mul-start cast-start shr-start rest-of-requires settled-requires returns)
+    (tie.spec mul-n mul-start cast-start shr-start settled-by-requires returns)
