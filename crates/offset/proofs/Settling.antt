@@ -14,7 +14,7 @@ use mir.Val.{Fits}
 use Rattle.kinds.specs.Rounding.{Mode, nearest, up, down, towardZero, modeOf, away, placeOf, roundedBy}
 use Rattle.offset.specs.Offset.{roundedOver}
 use Rattle.offset.specs.Inverse.{InverseOf, DoubledOver, Ranges, Sizes}
-use Rattle.offset.specs.Settled.{restOf, restBy, stepped, settledBy}
+use Rattle.offset.specs.Settled.{restOf, stepped, settledBy}
 use Rattle.offset.proofs.Start.{start-below, start-above, start-most}
 use Rattle.offset.proofs.Places.{rounded-is, offset-sizes, offset-most}
 
@@ -248,58 +248,41 @@ settled-most mode negative low shift component radius q r ranges inverse e =
 
 -- ---- the code's numbers
 
-pub rest-nearest : (r o : ℕ) → r ≡ 0 → 1 ≡ restBy r o
-unfolding restBy
-rest-nearest r o e = simp (eq-eqb r 0 e)
+up-rest : (b : Bool) → cond b 2 0 ≡ restOf up b
+unfolding restOf
+up-rest true = refl
+up-rest false = refl
 
-pub rest-outward : (r o : ℕ) → (r ≡ 0 → ⊥) → r ≡ o → 0 ≡ restBy r o
-unfolding restBy
-rest-outward r o z e = simp (ne-eqb r 0 z, eq-eqb r o e)
-
-pub rest-whole : (r o : ℕ) → (r ≡ 0 → ⊥) → (r ≡ o → ⊥) → 2 ≡ restBy r o
-unfolding restBy
-rest-whole r o z e = simp (ne-eqb r 0 z, ne-eqb r o e)
-
--- up goes away from zero above it, and down below it
-pub rest-above : (r x : ℕ) (negative : Bool) → negative ≡ false → x ≡ restBy r 1 → x ≡ restOf (modeOf r) negative
-unfolding restBy restOf
-rest-above r x negative p e = e ∙ go (eqb r 0) (eqb r 1) (eqb r 2) ∙ ap (restOf (modeOf r)) (sym p)
-  where
-    go : (a b c : Bool) → cond a 1 (cond b 0 2) ≡ restOf (cond a nearest (cond b up (cond c down towardZero))) false
-    go true b c = refl
-    go false true c = refl
-    go false false true = refl
-    go false false false = refl
-
-below-zero : (r x : ℕ) → x ≡ restBy r 2 → x ≡ restOf (modeOf r) true
-unfolding restBy restOf
-below-zero r x e =
-    by-cases (decLt r 1)
-    (λ h. e ∙ simp (eq-eqb r 0 (omega arith)))
-    (λ h.
-    by-cases (decLt 1 r)
-    (λ k. e ∙ simp (ne-eqb r 0 (λ x. omega arith), ne-eqb r 1 (λ x. omega arith)) (go (eqb r 2)))
-    (λ k. e ∙ simp (ne-eqb r 0 (λ x. omega arith), eq-eqb r 1 (omega arith), ne-eqb r 2 (λ x. omega arith))))
-  where
-    go : (c : Bool) → cond c 0 2 ≡ restOf (cond c down towardZero) true
-    go true = refl
-    go false = refl
-
-pub rest-below : (r x : ℕ) (negative : Bool) → negative ≡ true → x ≡ restBy r 2 → x ≡ restOf (modeOf r) negative
-rest-below r x negative p e = below-zero r x e ∙ ap (restOf (modeOf r)) (sym p)
+down-rest : (b : Bool) → cond (not b) 2 0 ≡ restOf down b
+unfolding restOf
+down-rest true = refl
+down-rest false = refl
 
 module _ (r : ℕ) (negative : Bool) (start n q x : ℕ) where
-  pub by-nearest : r ≡ 0 → x ≡ settledBy 1 start n q → x ≡ settledBy (restOf (modeOf r) negative) start n q
-  unfolding restOf
-  by-nearest z e = e ∙ ap (λ (y : ℕ). settledBy (restOf (modeOf y) negative) start n q) (sym z)
-
-  pub by-zero : r ≡ 3 → x ≡ settledBy 2 start n q → x ≡ settledBy (restOf (modeOf r) negative) start n q
-  unfolding restOf
-  by-zero z e = e ∙ ap (λ (y : ℕ). settledBy (restOf (modeOf y) negative) start n q) (sym z)
-
-  pub by-rest : (rest : ℕ) → rest ≡ restOf (modeOf r) negative → x ≡ settledBy rest start n q
+  by-rest : (rest : ℕ) → rest ≡ restOf (modeOf r) negative → x ≡ settledBy rest start n q
       → x ≡ settledBy (restOf (modeOf r) negative) start n q
   by-rest rest z e = e ∙ ap (λ (y : ℕ). settledBy y start n q) z
+
+  by-number : (k rest : ℕ) → r ≡ k → rest ≡ restOf (modeOf k) negative → x ≡ settledBy rest start n q
+      → x ≡ settledBy (restOf (modeOf r) negative) start n q
+  by-number k rest z d e = by-rest rest (d ∙ ap (λ (y : ℕ). restOf (modeOf y) negative) (sym z)) e
+
+  pub by-nearest : r ≡ 0 → x ≡ settledBy 1 start n q → x ≡ settledBy (restOf (modeOf r) negative) start n q
+  unfolding restOf
+  by-nearest z e = by-number 0 1 z refl e
+
+  pub by-up : (rest : ℕ) → r ≡ 1 → rest ≡ cond negative 2 0 → x ≡ settledBy rest start n q
+      → x ≡ settledBy (restOf (modeOf r) negative) start n q
+  by-up rest z d e = by-number 1 rest z (d ∙ up-rest negative) e
+
+  pub by-down : (rest : ℕ) → r ≡ 2 → rest ≡ cond (not negative) 2 0 → x ≡ settledBy rest start n q
+      → x ≡ settledBy (restOf (modeOf r) negative) start n q
+  by-down rest z d e = by-number 2 rest z (d ∙ down-rest negative) e
+
+  pub by-last : (r ≡ 0 → ⊥) → (r ≡ 1 → ⊥) → (r ≡ 2 → ⊥) → x ≡ settledBy 2 start n q
+      → x ≡ settledBy (restOf (modeOf r) negative) start n q
+  unfolding restOf
+  by-last a b c e = by-rest 2 (simp (ne-eqb r 0 a, ne-eqb r 1 b, ne-eqb r 2 c)) e
 
 module _ (rest start n q : ℕ) (most : rest ≤ 2) (sizes : Sizes n q) (below : start * start * q ≤ 4 * (n * n)) where
   start-small : start ≤ 25000

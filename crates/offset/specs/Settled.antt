@@ -1,7 +1,7 @@
 -- How the code settles n over √q, rounded, from a start near twice that. Assumes nothing.
 use Prim.Native.Nat.{ℕ, _+_, _-_, _*_, _/_, _%_}
 use mathlib.Core.Bool.{Bool, true, false, cond}
-use lib.Dec.{eqb, ltb}
+use lib.Dec.{ltb}
 use Rattle.kinds.specs.Rounding.{Mode, nearest, up, down, towardZero}
 
 -- what a rounding leaves of the way between two neighbours, in halves: 0 away from zero, 1 to the nearest, 2 toward zero
@@ -12,10 +12,6 @@ restOf up true = 2
 restOf down false = 2
 restOf down true = 0
 restOf towardZero negative = 2
-
--- the same by the rounding's number and that of the rounding that goes away from zero
-unfoldable pub restBy : ℕ → ℕ → ℕ
-restBy r outward = cond (eqb r 0) 1 (cond (eqb r outward) 0 2)
 
 -- t or the next, by m²·q against 4·n²
 unfoldable pub stepped : ℕ → ℕ → ℕ → ℕ → ℕ → ℕ

@@ -2,11 +2,12 @@
 // is a little too small gives a start, one test of squares decides.
 use kinds::Rounding;
 ghost use mathlib.Core.Path.{_≡_};
+ghost use mathlib.Core.Bool.{cond};
 ghost use Prim.Native.Nat.{_*_, _^_, _≤_, _<_};
 ghost use Rattle.kinds.specs.Rounding.{modeOf};
 ghost use Rattle.offset.specs.Offset.{roundedOver};
 ghost use Rattle.offset.specs.Inverse.{InverseOf, Ranges, Sizes};
-ghost use Rattle.offset.specs.Settled.{restOf, restBy, settledBy};
+ghost use Rattle.offset.specs.Settled.{restOf, settledBy};
 
 // 1 over √q from below, worked out once for a point: it is at least low over 2^(shift + 1), and at most (low + 32)
 // over that power.
@@ -48,40 +49,27 @@ pub fn rounded_over(
     settled_by(rounding, negative, start, n, q)
 }
 
-// The magnitude from a start, by the rounding. The first two have numbers of their own, which makes their tests shorter.
+// The magnitude from a start, each rounding by its own rest: what it leaves of the way between two neighbours, in halves.
 fn settled_by(rounding: Rounding, negative: bool, start: u64, n: u64, q: u64) -> u64
     requires { ⌜ Sizes n q × (start * start * q ≤ 4 * (n * n)) ⌝ }
     ensures { λ r. ⌜ r ≡ settledBy (restOf (modeOf (rounding .0)) negative) start n q ⌝ }
 {
     if rounding.0 == Rounding::NEAREST.0 {
         settled(1, start, n, q)
-    } else if rounding.0 == Rounding::TOWARD_ZERO.0 {
+    } else if rounding.0 == Rounding::UP.0 {
+        settled(rest_if(negative), start, n, q)
+    } else if rounding.0 == Rounding::DOWN.0 {
+        settled(rest_if(!negative), start, n, q)
+    } else {
         settled(2, start, n, q)
-    } else {
-        settled(rest_of(rounding, negative), start, n, q)
     }
 }
 
-// What a rounding leaves of the way between two neighbours, in halves: 0 away from zero, 1 to the nearest, 2 toward zero.
-fn rest_of(rounding: Rounding, negative: bool) -> u64
-    ensures { λ r. ⌜ (r ≡ restOf (modeOf (rounding .0)) negative) × (r ≤ 2) ⌝ }
+// 2 toward zero, 0 away from it.
+fn rest_if(inward: bool) -> u64
+    ensures { λ r. ⌜ (r ≡ cond inward 2 0) × (r ≤ 2) ⌝ }
 {
-    let above = rest_by(rounding, Rounding::UP);
-    let below = rest_by(rounding, Rounding::DOWN);
-    if negative { below } else { above }
-}
-
-// The same, where `outward` is the rounding that goes away from zero.
-fn rest_by(rounding: Rounding, outward: Rounding) -> u64
-    ensures { λ r. ⌜ (r ≡ restBy (rounding .0) (outward .0)) × (r ≤ 2) ⌝ }
-{
-    if rounding.0 == Rounding::NEAREST.0 {
-        1
-    } else if rounding.0 == outward.0 {
-        0
-    } else {
-        2
-    }
+    if inward { 2 } else { 0 }
 }
 
 // From a start that is 2n over √q, floored, or one below it: t is the magnitude or one below it, and one test decides. A magnitude that
