@@ -6,7 +6,6 @@ use mathlib.Core.Bool.{Bool, true, false, cond, not}
 use mathlib.Core.List.{[], _∷_}
 use mathlib.Core.Logic.{by-cases}
 use native.Mathlib.Nat.{div-add-mod, mod-lt, mul-div-le, mul-div-right, lt-mul-div-succ, div-lt-iff-lt-mul, mul-le-mul, mul-le-mul-right, mul-le-mul-left}
-use native.Mathlib.Numerals.{add-one}
 use native.Mathlib.Decide.{decLt}
 use native.Mathlib.Omega.{arith}
 use borrow.Author.Tests.{lt-ltb, le-ltb, eq-eqb, ne-eqb}
@@ -19,16 +18,6 @@ use Rattle.numbers.proofs.Ring.{v, #, _⊕_, _⊗_, _⊙_⊑_, nlin}
 use Rattle.offset.specs.Offset.{floorOver, placeOver, roundedOver}
 use Rattle.offset.specs.Inverse.{DoubledOver, Ranges, Sizes, radiusMost}
 use Rattle.offset.proofs.Start.{start-most}
-
--- the neighbour that is taken
-module _ (mode : Mode) (negative : Bool) (t : ℕ) (place : Place) (b : Bool) (decides : b ≡ away mode negative (eqb (t % 2) 1) place) where
-  pub upper-taken : b ≡ true → t + 1 ≡ roundedBy mode negative t place
-  unfolding roundedBy
-  upper-taken e = rw (← decides, e) (add-one t)
-
-  pub lower-taken : b ≡ false → t ≡ roundedBy mode negative t place
-  unfolding roundedBy
-  lower-taken e = rw (← decides, e)
 
 -- n over √q against t and t + ½
 module _ (n q t left : ℕ) (pos : 0 < q) where

@@ -307,9 +307,6 @@ module _ (rest start n q : ℕ) (most : rest ≤ 2) (sizes : Sizes n q) (below :
   pub middle-fits : Fits w64 (2 * ((start + (2 - rest) / 2) / 2) + rest)
   middle-fits = omega (arith, start-small)
 
-  pub next-fits : Fits w64 ((start + (2 - rest) / 2) / 2 + 1)
-  next-fits = omega (arith, start-small)
-
   pub square-fits : Fits w64 ((2 * ((start + (2 - rest) / 2) / 2) + rest) * (2 * ((start + (2 - rest) / 2) / 2) + rest))
   square-fits = omega (arith, mul-le-mul m-most m-most, start-small, mul-le-mul start-small start-small)
 

@@ -87,9 +87,9 @@ module _ (n q : ℕ) (sizes : Sizes n q) where
   pub limit-fits : Fits w64 (4 * (n * n))
   limit-fits = omega (arith, mul-le-mul (sizes .product-most) (sizes .product-most))
 
-  -- what fits where t is not above 2n over √q
+  -- where t is not above 2n over √q
   module _ (t : ℕ) (below : t * t * q ≤ 4 * (n * n)) where
-    -- which is at most twice the largest radius
+    -- it is at most twice the largest radius
     pub start-most : t ≤ 2 * radiusMost
     start-most =
         by-cases (decLt (2 * radiusMost) t)
@@ -104,21 +104,6 @@ module _ (n q : ℕ) (sizes : Sizes n q) where
         (# 1) (# 0) tt (omega arith) in
         omega arith)
         (λ l. omega arith)
-
-    pub more-fits : Fits w64 (t + 1)
-    more-fits = omega (arith, start-most)
-
-    pub product-fits : Fits w64 (t * q)
-    product-fits = omega (arith, mul-le-mul start-most (sizes .most))
-
-    pub square-fits : Fits w64 (t * q * t)
-    square-fits = omega (arith, limit-fits .fits)
-
-    pub twice-fits : Fits w64 (2 * (t * q))
-    twice-fits = omega (arith, mul-le-mul start-most (sizes .most))
-
-    pub next-fits : Fits w64 (2 * (t * q) + q)
-    next-fits = omega (arith, mul-le-mul start-most (sizes .most))
 
   module _ (low shift : ℕ) (inverse : InverseOf q low shift) where
     pub start-fits : Fits w64 (n * low)
