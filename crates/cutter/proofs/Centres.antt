@@ -66,6 +66,8 @@ module _ (n : Normal) (step radius : ℕ) (f : Measured n step) (g : Steps step 
     most = squared-most;
   }
 
+pub ruleset ranges = (ranges-x, ranges-y, ranges-z)
+
 -- ---- the offsets
 
 pub offsets-are : (mode : Mode) (n : Normal) (step radius : ℕ) (x y z : Signed) → x ≡ offsetParts mode (n .x) radius (n .squared)
@@ -98,6 +100,10 @@ module _ (w d c q step radius : ℕ) (s : Sizes w d) (h : Inner w d c q) (g : St
 
   pub row-small : q * step < 2147483648
   row-small = omega (arith, row-most)
+
+pub ruleset coordinate-fits = (column-fits, row-fits)
+
+pub ruleset coordinate-small = (column-small, row-small)
 
 -- ---- the centre
 
