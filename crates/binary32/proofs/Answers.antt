@@ -2,15 +2,15 @@
 use mathlib.Core.Path.{_≡_, refl, sym, ap, ap₂, _∙_}
 use mathlib.Core.Bool.{Bool, true, false, cond, not, _&&_, _||_, true≢false}
 use mathlib.Core.Logic.{by-cases}
-use Prim.Native.Nat.{ℕ, suc, _+_, _*_, _/_, _%_, _^_, _≤_, _<_}
+use Prim.Native.Nat.{ℕ, _/_, _%_, _^_, _<_}
 use native.Mathlib.Decide.{decLt}
 use native.Mathlib.Omega.{arith}
 use borrow.Author.Tests.{leb-false, eqb-false, lt-ltb, le-ltb, le-leb, lt-leb, eq-eqb, ne-eqb}
 use lib.Dec.{eqb, ltb, leb}
 use Rattle.kinds.specs.Operation.{Op, isReciprocal}
 use Rattle.kinds.specs.Rounding.{Mode}
-use Rattle.ieee.specs.Format.{binary32, infinity, leastNormal, magnitudeOf}
-use Rattle.ieee.specs.Answer.{Answer, signed, toNaN, toZero, toInfinity, toFinite, answerTo, answerOf}
+use Rattle.ieee.specs.Format.{binary32, infinity, magnitudeOf}
+use Rattle.ieee.specs.Answer.{Answer, signed, toFinite, answerTo, answerOf}
 use Rattle.ieee.proofs.Rounding.{rounded-is, flags-are}
 use Rattle.pattern.specs.Parts.{patternOf, PartsOf, Ranges}
 use Rattle.binary32.specs.Operand.{Ordinary}

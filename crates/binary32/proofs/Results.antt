@@ -1,6 +1,6 @@
 -- From the raw unit to the pattern below the exact result. Assumes nothing.
 use mathlib.Core.Path.{_≡_, sym, subst}
-use Prim.Native.Nat.{ℕ, suc, _+_, _*_, _-_, _/_, _%_, _^_, _≤_, _<_}
+use Prim.Native.Nat.{ℕ, _+_, _*_, _-_, _/_, _%_, _^_, _≤_, _<_}
 use native.Mathlib.Nat.{mul-pos}
 use native.Mathlib.Omega.{arith}
 use mathlib.Core.Bool.{Bool, not}
@@ -13,7 +13,7 @@ use Rattle.kinds.specs.Operation.{Op, reciprocal, root, inverseRoot, opOf}
 use Rattle.significand.specs.Steps.{rawOf}
 use Rattle.significand.specs.Distance.{Near, distanceOf}
 use Rattle.significand.proofs.Distance.{distance}
-use Rattle.ieee.specs.Format.{binary32, magnitudeOf, infinity}
+use Rattle.ieee.specs.Format.{binary32, magnitudeOf}
 use Rattle.ieee.specs.Guarded.{Guarded, Below}
 use Rattle.ieee.proofs.Guarded.{guarded-below}
 use Rattle.pattern.specs.Parts.{patternOf}

@@ -12,11 +12,11 @@ ghost use Rattle.pattern.specs.Neighbour.{roundedAnswer};
 use below::below;
 use kinds::Operation;
 use kinds::Rounding;
+pub use pattern::Rounded;
 use pattern::neighbour::round;
 use pattern::parts::fields;
 use pattern::special::is_special;
 use pattern::special::special;
-pub use pattern::Rounded;
 
 // An operation on a pattern. A number that is no operation's or no rounding's counts as the last: whoever calls asks the questions.
 pub fn answer(operation: Operation, rounding: Rounding, bits: u32) -> Rounded

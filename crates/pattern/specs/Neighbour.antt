@@ -1,6 +1,6 @@
 -- The pattern below an exact result, and the rounded pattern with its flags. Assumes nothing.
-use mathlib.Core.Bool.{Bool, cond, not, _&&_, _||_}
-use Prim.Native.Nat.{ℕ, suc, _+_, _*_, _-_, _%_, _^_, min}
+use mathlib.Core.Bool.{Bool, cond, _&&_, _||_}
+use Prim.Native.Nat.{ℕ, suc, _+_, _-_, _%_, min}
 use lib.Dec.{eqb, ltb}
 use Rattle.kinds.specs.Rounding.{Mode, away, placeOf}
 use Rattle.kinds.specs.Flag.{overflow, underflow, inexact}

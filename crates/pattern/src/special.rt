@@ -1,7 +1,7 @@
 // Operands that need no arithmetic: NaN before the sign, then a negative operand of a root, then zeros, then infinities.
 ghost use mathlib.Core.Path.{_≡_};
 ghost use mathlib.Core.Bool.{cond};
-ghost use Prim.Native.Nat.{_≤_, _<_};
+ghost use Prim.Native.Nat.{_≤_, _<_, max};
 ghost use lib.Dec.{eqb, ltb};
 ghost use Rattle.kinds.specs.Operation.{opOf};
 ghost use Rattle.ieee.specs.Format.{binary32, infinity};
@@ -16,6 +16,7 @@ use crate::parts::Parts;
 use kinds::Flag;
 use kinds::Operation;
 
+// Whether an operand is a NaN, infinity, zero, or a negative operand of a root.
 pub fn is_special(operation: Operation, x: Parts) -> bool
     requires { ⌜ Ranges x ⌝ }
     ensures { λ r. ⌜ r ≡ isSpecial (opOf (operation .0)) x ⌝ }
@@ -23,6 +24,7 @@ pub fn is_special(operation: Operation, x: Parts) -> bool
     (x.exponent == 255) | is_zero(x) | ((x.sign == 1) & !(operation.0 == Operation::RECIPROCAL.0))
 }
 
+// The answer to such an operand.
 pub fn special(operation: Operation, x: Parts) -> Rounded
     requires { ⌜ Ranges x ⌝ }
     ensures { λ r. ⌜ r ≡ roundedAnswer (specialTo (opOf (operation .0)) x) ⌝ }
@@ -36,6 +38,7 @@ pub fn special(operation: Operation, x: Parts) -> Rounded
     )
 }
 
+// Zeros and infinities.
 fn at_edge(operation: Operation, x: Parts) -> Rounded
     requires { ⌜ Ranges x ⌝ }
     ensures { λ r. ⌜ r ≡ edgeOf (opOf (operation .0)) x ⌝ }
@@ -85,17 +88,19 @@ fn at_nan(x: Parts) -> Rounded
     not_a_number(x.fraction < 0x40_0000)
 }
 
+// The root of a zero is that zero; the others give infinity of the same sign and division by zero.
 fn at_zero(operation: Operation, sign: u32) -> Rounded
     requires { ⌜ sign < 2 ⌝ }
     ensures { λ r. ⌜ r ≡ roundedAnswer (toZero binary32 (opOf (operation .0)) sign) ⌝ }
 {
     let root = operation.0 == Operation::ROOT.0;
     Rounded {
-        bits: with_sign(sign, infinity_if(!root)),
+        bits: with_sign(sign, pick(!root, 0x7F80_0000, 0)),
         flags: flag_if(!root, Flag::DIVISION_BY_ZERO),
     }
 }
 
+// The reciprocal is a zero of the same sign, the root of plus infinity itself, and its inverse root plus zero.
 fn at_infinity(operation: Operation, sign: u32) -> Rounded
     requires { ⌜ sign < 2 ⌝ }
     ensures { λ r. ⌜ r ≡ roundedAnswer (toInfinity binary32 (opOf (operation .0)) sign) ⌝ }
@@ -103,20 +108,14 @@ fn at_infinity(operation: Operation, sign: u32) -> Rounded
     let reciprocal = operation.0 == Operation::RECIPROCAL.0;
     let root = operation.0 == Operation::ROOT.0;
     Rounded {
-        bits: with_sign(sign_if(reciprocal, sign), infinity_if(root)),
+        bits: with_sign(pick(reciprocal, sign, 0), pick(root, 0x7F80_0000, 0)),
         flags: 0,
     }
 }
 
-fn infinity_if(test: bool) -> u32
-    ensures { λ r. ⌜ (r ≡ cond test (infinity binary32) 0) × (r ≤ 2139095040) ⌝ }
+// The first where the test holds, else the second.
+fn pick(test: bool, a: u32, b: u32) -> u32
+    ensures { λ r. ⌜ (r ≡ cond test a b) × (r ≤ max a b) ⌝ }
 {
-    if test { 0x7F80_0000 } else { 0 }
-}
-
-fn sign_if(test: bool, sign: u32) -> u32
-    requires { ⌜ sign < 2 ⌝ }
-    ensures { λ r. ⌜ (r ≡ cond test sign 0) × (r < 2) ⌝ }
-{
-    if test { sign } else { 0 }
+    if test { a } else { b }
 }

@@ -1,4 +1,4 @@
--- `pattern::special::at_edge` meets its contract. Assumes nothing.
+-- `pattern::special::at_edge` meets its contract: each call gives one part of the definition. Assumes nothing.
 use borrow.Author.Needs.{needs}
 use Rattle.pattern.proofs.special.at_edge.Statement.{statement}
 use Rattle.pattern.proofs.special.at_edge.Tie as tie

@@ -1,4 +1,4 @@
--- `pattern::special::at_nan` meets its contract. Assumes nothing.
+-- `pattern::special::at_nan` meets its contract: the top fraction bit tells a signalling NaN. Assumes nothing.
 use borrow.Author.Needs.{needs}
 use Rattle.pattern.proofs.Specials.{nan-answer}
 use Rattle.pattern.proofs.special.at_nan.Statement.{statement}

@@ -1,11 +1,11 @@
--- `pattern::special::at_zero` meets its contract. Assumes nothing.
+-- `pattern::special::at_zero` meets its contract: the operation by its number. Assumes nothing.
 use borrow.Author.Needs.{needs}
 use Rattle.pattern.proofs.Specials.{zero-answer}
 use Rattle.pattern.proofs.special.at_zero.Statement.{statement}
 use Rattle.pattern.proofs.special.at_zero.Tie as tie
 
-infinity-if-requires : tie.Need-infinity-if-requires
-infinity-if-requires c κs = search needs
+pick-requires : tie.Need-pick-requires
+pick-requires c κs = search needs
 
 with-sign-requires : tie.Need-with-sign-requires
 with-sign-requires c κs = search needs
@@ -17,5 +17,4 @@ returns : tie.Need-returns
 returns c = search zero-answer
 
 pub at-zero-spec : {M : Type 1} → statement M
-at-zero-spec =
-    tie.close (tie.spec infinity-if-requires with-sign-requires flag-if-requires returns)
+at-zero-spec = tie.close (tie.spec pick-requires with-sign-requires flag-if-requires returns)

@@ -1,4 +1,4 @@
--- `pattern::special::not_a_number` meets its contract. Assumes nothing.
+-- `pattern::special::not_a_number` meets its contract: the flag is invalid, or none. Assumes nothing.
 use borrow.Author.Needs.{needs}
 use Rattle.pattern.proofs.special.not_a_number.Statement.{statement}
 use Rattle.pattern.proofs.special.not_a_number.Tie as tie
