@@ -35,6 +35,8 @@ def function(crate, name):
 
 
 def found(span):
+    if '/' in span and (ROOT / span).exists():
+        return True
     m = re.fullmatch(r'([a-z0-9_]+)!([a-z0-9_]+)', span)
     if m:
         return (CRATES / m[1] / 'must-fail' / f'{m[2]}.edit').is_file()

@@ -20,7 +20,7 @@ use Rattle.cutter.specs.Map.{plt1, trailerAt, distanceOf, widthOf, depthOf, ste
 use Rattle.cutter.specs.Centre.{pointAt}
 use Rattle.cutter.specs.List.{countOf}
 use Rattle.cutter.specs.Call.{within, heightsWithin, listRefusal}
-use Rattle.cutter.specs.Agree.{innerPoint}
+use Rattle.cutter.specs.List.{innerPoint}
 use Rattle.bracket.proofs.Centre.{InRange, abs-add}
 
 -- ---- the questions

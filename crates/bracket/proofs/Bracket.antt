@@ -11,13 +11,14 @@ use Rattle.words.specs.Word.{wordAt}
 use Rattle.words.specs.Signed.{signed}
 use Rattle.words.proofs.Runs.{joined-same, joined-apart}
 use Rattle.cutter.specs.Map.{widthOf, depthOf, stepOf, radiusOf}
-use Rattle.cutter.specs.Centre.{recordBytes}
-use Rattle.cutter.specs.List.{countOf, centreAt, recordAt, trailerBytes, listBytes}
+use Rattle.cutter.specs.Centre.{Point, recordBytes}
+use Rattle.cutter.specs.List.{countOf, innerPoint, centreAt, recordAt, trailerBytes, listBytes}
 use Rattle.cutter.specs.Call.{listRefusal}
-use Rattle.cutter.specs.Agree.{ExactMap, innerPoint}
+use Rattle.cutter.specs.Agree.{ExactAt, ExactMap}
 use Rattle.bracket.specs.Bracket.{coordinate, CentreBracket, ListBracket}
 use Rattle.bracket.proofs.Centre.{same-centre, centre-bracket}
 use Rattle.bracket.proofs.Accepted.{Accepted, accepted-of, inner-in-range}
+use Rattle.bracket.proofs.Places.{inner-at, at-every}
 use Rattle.bracket.proofs.Entries.{length-record, record-entry, centre-small, list-held}
 
 module _ (m : List ℕ) (a : Accepted m) where
@@ -48,7 +49,10 @@ module _ (m : List ℕ) (a : Accepted m) where
   -- the lists are equal where the map is exact
   lists-equal : (listBytes down m ≡ listBytes up m) ↔ ExactMap m
   unfolding centreAt
-  lists-equal = (λ e n h. at-point n h .equal .0 (same-centres e n h), λ x. same-bytes (λ n h. at-point n h .equal .1 (x n h)))
+  lists-equal = (
+    λ e. at-every m (λ (p : Point). ExactAt (stepOf m) (radiusOf m) p) (a .width-from) (λ n h. at-point n h .equal .0 (same-centres e n h)),
+    λ x. same-bytes (λ n h. at-point n h .equal .1 (x _ _ (inner-at (widthOf m) (depthOf m) (a .width-from) n h))),
+  )
 
   -- coordinates that differ are one apart
   entries-next : (n j : ℕ) → n < countOf (widthOf m) (depthOf m)

@@ -17,7 +17,8 @@ use Rattle.cutter.specs.Map.{widthOf, depthOf, stepOf, radiusOf}
 use Rattle.cutter.specs.Centre.{Centre, recordBytes}
 use Rattle.cutter.specs.List.{countOf, centreAt, recordAt, trailerBytes, listLength, listBytes}
 use Rattle.cutter.specs.Call.{listRefusal, listAnswer, bufferAfter}
-use Rattle.cutter.specs.Agree.{entryAt, innerPoint}
+use Rattle.cutter.specs.Agree.{entryAt}
+use Rattle.cutter.specs.List.{innerPoint}
 use Rattle.bracket.specs.Bracket.{coordinate, ListHeld}
 use Rattle.bracket.proofs.Centre.{coordinate-small}
 use Rattle.bracket.proofs.Accepted.{Accepted, accepted-of, inner-in-range}

@@ -7,10 +7,10 @@ use native.Mathlib.Nat.{mul-le-mul, mul-le-mul-left, mul-le-mul-right, mul-pos, 
 use native.Mathlib.Numerals.{add-one}
 use native.Mathlib.Decide.{ℕ-discrete, decLt}
 use native.Mathlib.Omega.{arith}
-use borrow.Author.Tests.{eq-eqb, ne-eqb}
 use lib.Dec.{eqb, leb→le, le→leb}
 use lib.IntN.{ℤ, pos, negsuc, natAbs, sucℤ, _+ℤ_, +ℤ-one}
-use Rattle.kinds.specs.Rounding.{Mode, up, down, below, half, above, away, placeBy, roundedBy}
+use Rattle.kinds.specs.Rounding.{Mode, up, down, away, roundedBy}
+use Rattle.kinds.proofs.Directed as directed
 use Rattle.numbers.proofs.Greatest.{greatest-found, greatest-above, squareFits, square-antitone}
 use Rattle.numbers.proofs.Squares.{square-rising, square-same, square-part}
 use Rattle.words.specs.Signed.{withSign, isNegative}
@@ -84,30 +84,17 @@ reached-whole q n e = by-product (eq-zero-or-pos n) (eq-zero-or-pos (floorOver n
 
 -- at an exact floor no rounding goes on
 rounded-exact : (mode : Mode) (negative : Bool) (n q : ℕ) → Reached n q → roundedOver mode negative n q ≡ floorOver n q
-unfolding roundedOver roundedBy placeOver placeBy away
-rounded-exact mode negative n q e = rw (eq-eqb _ _ e)
+unfolding roundedOver placeOver
+rounded-exact mode negative n q e = directed.rounded-exact _ _ _ _ _ _ mode e
 
 -- anywhere else down goes on where the number is negative, and up where it is not
-inexact-down : (negative odd b c : Bool) → away down negative odd (cond b above (cond c half below)) ≡ negative
-unfolding away
-inexact-down negative odd true c = refl
-inexact-down negative odd false true = refl
-inexact-down negative odd false false = refl
-
-inexact-up : (negative odd b c : Bool) → away up negative odd (cond b above (cond c half below)) ≡ not negative
-unfolding away
-inexact-up negative odd true c = refl
-inexact-up negative odd false true = refl
-inexact-up negative odd false false = refl
-
--- so their magnitudes are
 rounded-down : (negative : Bool) (n q : ℕ) → (Reached n q → ⊥) → roundedOver down negative n q ≡ cond negative (suc (floorOver n q)) (floorOver n q)
-unfolding roundedOver roundedBy placeOver placeBy
-rounded-down negative n q h = rw (ne-eqb _ _ h, inexact-down)
+unfolding roundedOver placeOver
+rounded-down negative n q h = directed.rounded-down _ _ _ _ _ _ h
 
 rounded-up : (negative : Bool) (n q : ℕ) → (Reached n q → ⊥) → roundedOver up negative n q ≡ cond (not negative) (suc (floorOver n q)) (floorOver n q)
-unfolding roundedOver roundedBy placeOver placeBy
-rounded-up negative n q h = rw (ne-eqb _ _ h, inexact-up)
+unfolding roundedOver placeOver
+rounded-up negative n q h = directed.rounded-up _ _ _ _ _ _ h
 
 -- every rounding is at most one above the floor
 rounded-small : (mode : Mode) (negative : Bool) (n q : ℕ) → roundedOver mode negative n q ≤ suc (floorOver n q)

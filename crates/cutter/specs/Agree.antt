@@ -1,14 +1,13 @@
 -- Where the lower and the upper list of a map agree. Assumes nothing.
-use Prim.Native.Nat.{ℕ, _+_, _-_, _*_, _/_, _%_, _<_}
+use Prim.Native.Nat.{ℕ, _+_, _*_}
 use mathlib.Core.Path.{_≡_}
 use mathlib.Core.List.{List}
 use lib.IntN.{ℤ, natAbs}
 use Rattle.words.specs.Word.{wordAt}
 use Rattle.words.specs.Signed.{signed}
 use Rattle.offset.specs.Offset.{squaredLength, MultipleOf}
-use Rattle.cutter.specs.Map.{widthOf, depthOf, stepOf, radiusOf}
+use Rattle.cutter.specs.Map.{Inner, widthOf, depthOf, stepOf, radiusOf}
 use Rattle.cutter.specs.Centre.{Point, pointAt}
-use Rattle.cutter.specs.List.{countOf}
 
 -- at a point the squared length of the normal is a perfect square whose root divides each component times the radius
 pub record ExactAt (step radius : ℕ) (p : Point) : Type 0 where
@@ -18,13 +17,9 @@ pub record ExactAt (step radius : ℕ) (p : Point) : Type 0 where
   pub along-y : MultipleOf root (natAbs (p .dy) * radius)
   pub along-z : MultipleOf root (2 * step * radius)
 
--- the inner point n of a map, counted from 0, row by row
-abbrev pub innerPoint : List ℕ → ℕ → Point
-innerPoint m n = pointAt m (widthOf m) (n % (widthOf m - 2) + 1) (n / (widthOf m - 2) + 1)
-
--- it is so at every inner point
+-- it is so at every inner point of a map
 abbrev pub ExactMap : List ℕ → Type 0
-ExactMap m = (n : ℕ) → n < countOf (widthOf m) (depthOf m) → ExactAt (stepOf m) (radiusOf m) (innerPoint m n)
+ExactMap m = (c q : ℕ) → Inner (widthOf m) (depthOf m) c q → ExactAt (stepOf m) (radiusOf m) (pointAt m (widthOf m) c q)
 
 -- the x, y or z (j is 0, 1 or 2) of record n in the bytes of a list, as a signed number
 abbrev pub entryAt : List ℕ → ℕ → ℕ → ℤ

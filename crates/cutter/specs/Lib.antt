@@ -3,3 +3,6 @@ pub mod Centre
 pub mod List
 pub mod Call
 pub mod Agree
+pub mod Asked
+pub mod Normal
+pub mod Reply

@@ -5,7 +5,7 @@ use Rattle.kinds.specs.Rounding.{Mode}
 use Rattle.words.specs.Word.{halfBytes, wordBytes}
 use Rattle.words.specs.Joined.{joined}
 use Rattle.cutter.specs.Map.{widthOf, depthOf, stepOf, radiusOf}
-use Rattle.cutter.specs.Centre.{Centre, centreOf, pointAt, recordBytes}
+use Rattle.cutter.specs.Centre.{Point, Centre, centreOf, pointAt, recordBytes}
 
 -- the letters CUT1
 abbrev pub cut1 : List ℕ
@@ -15,10 +15,13 @@ cut1 = 67 ∷ 85 ∷ 84 ∷ 49 ∷ []
 abbrev pub countOf : ℕ → ℕ → ℕ
 countOf w d = (w - 2) * (d - 2)
 
--- the centre of the inner point n, counted from 0, row by row
+-- the inner point n of a map, counted from 0, row by row
+abbrev pub innerPoint : List ℕ → ℕ → Point
+innerPoint m n = pointAt m (widthOf m) (n % (widthOf m - 2) + 1) (n / (widthOf m - 2) + 1)
+
+-- its centre
 unfoldable pub centreAt : Mode → List ℕ → ℕ → Centre
-centreAt mode m n =
-    centreOf mode (stepOf m) (radiusOf m) (pointAt m (widthOf m) (n % (widthOf m - 2) + 1) (n / (widthOf m - 2) + 1))
+centreAt mode m n = centreOf mode (stepOf m) (radiusOf m) (innerPoint m n)
 
 -- its record
 unfoldable pub recordAt : Mode → List ℕ → ℕ → List ℕ

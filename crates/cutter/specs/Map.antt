@@ -1,5 +1,5 @@
 -- A map: its trailer's fields, its heights, and the differences at a point. Assumes nothing.
-use Prim.Native.Nat.{ℕ, _+_, _-_, _*_}
+use Prim.Native.Nat.{ℕ, _+_, _-_, _*_, _≤_, _<_}
 use mathlib.Core.List.{List, [], _∷_}
 use lib.ListN.{length}
 use lib.IntN.{ℤ, _-ℤ_}
@@ -28,6 +28,13 @@ stepOf m = halfAt m (length m - 4)
 
 abbrev pub radiusOf : List ℕ → ℕ
 radiusOf m = halfAt m (length m - 2)
+
+-- the point at column c and row q of a w × d map, both counted from 0, is an inner one: it has four neighbours
+pub record Inner (w d c q : ℕ) : Type 0 where
+  pub left : 1 ≤ c
+  pub right : c + 1 < w
+  pub above : 1 ≤ q
+  pub below : q + 1 < d
 
 -- the height at column c and row q of a map that is w wide, in micrometres
 unfoldable pub heightAt : List ℕ → ℕ → ℕ → ℕ → ℤ

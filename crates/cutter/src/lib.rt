@@ -1,3 +1,111 @@
-pub fn same(x: u64) -> u64 {
-    x
+// The list of a map: the cutter's centres at its inner points, put at the front of a lent buffer.
+ghost use mathlib.Core.Path.{_≡_};
+ghost use Prim.Native.Nat.{_+_, _-_, _*_, _≤_, _<_};
+ghost use lib.ListN.{length};
+ghost use Rattle.kinds.specs.Rounding.{modeOf};
+ghost use Rattle.words.specs.Splice.{splice};
+ghost use Rattle.words.specs.Joined.{joined};
+ghost use Rattle.cutter.specs.List.{countOf, recordAt, trailerBytes, listLength, listBytes};
+ghost use Rattle.cutter.specs.Call.{listRefusal, bufferAfter};
+ghost use Rattle.cutter.specs.Asked.{Halves, Ready};
+ghost use Rattle.cutter.specs.Reply.{nextOf, listReply};
+
+pub mod door;
+pub mod heights;
+pub mod points;
+pub mod trailer;
+
+use door::first_no;
+use kinds::Rounding;
+use points::put_point;
+use trailer::Trailer;
+use trailer::read_trailer;
+use words::pair;
+use words::put_four;
+use words::put_word;
+
+// What the list call hands back: the number of the first "no", or 0, and the length of the list.
+pub struct Listed {
+    pub refusal: u8,
+    pub length: usize,
+}
+
+// The list of a map, put at the front of the buffer; after a "no" the buffer holds what it held.
+pub fn list(rounding: Rounding, map: &[u8], out: &mut [u8]) -> Listed
+    ensures { λ r. ⌜ (r ≡ listReply (rounding .0) (now (map .entry)) (length (now (out .entry)))) × (now (out .exit) ≡ bufferAfter (rounding .0) (now (map .entry)) (now (out .entry))) ⌝ }
+{
+    let refusal = first_no(rounding, map, out.len());
+    if refusal != 0 {
+        return Listed { refusal, length: 0 };
+    }
+    let length = put_list(rounding, map, out);
+    Listed { refusal, length }
+}
+
+// The list of an accepted map; its length.
+fn put_list(rounding: Rounding, map: &[u8], out: &mut [u8]) -> usize
+    requires { ⌜ listRefusal (rounding .0) (now map) (length (now out)) ≡ 0 ⌝ }
+    ensures { λ r. ⌜ (r ≡ listLength (now (map .entry))) × (now (out .exit) ≡ splice 0 (listBytes (modeOf (rounding .0)) (now (map .entry))) (now (out .entry))) ⌝ }
+{
+    let trailer = read_trailer(map);
+    put_points(rounding, map, out, trailer);
+    let end = 12 * ((trailer.width - 2) * (trailer.depth - 2));
+    put_trailer(out, end, trailer);
+    end + 16
+}
+
+// The column and the row of an inner point.
+pub struct Place {
+    pub column: usize,
+    pub row: usize,
+}
+
+// The records of all inner points, row by row, from the front on.
+fn put_points(rounding: Rounding, map: &[u8], out: &mut [u8], trailer: Trailer)
+    requires { ⌜ Ready (now map) trailer ⌝ }
+    requires { ⌜ 12 * ((trailer .width - 2) * (trailer .depth - 2)) ≤ length (now out) ⌝ }
+    ensures { λ _. ⌜ now (out .exit) ≡ splice 0 (joined (recordAt (modeOf (rounding .0)) (now (map .entry))) (countOf (trailer .width) (trailer .depth))) (now (out .entry)) ⌝ }
+{
+    let count = (trailer.width - 2) * (trailer.depth - 2);
+    let mut place = Place { column: 1, row: 1 };
+    let mut n: usize = 0;
+    while n < count {
+        put_point(rounding, map, out, trailer, place.column, place.row, 12 * n);
+        place = next_place(trailer.width, place);
+        n += 1;
+    }
+}
+
+// The inner point after a point, row by row.
+fn next_place(width: usize, place: Place) -> Place
+    requires { ⌜ (place .column < 64) × (place .row < 64) ⌝ }
+    ensures { λ r. ⌜ r ≡ nextOf width place ⌝ }
+{
+    if place.column + 2 < width {
+        Place {
+            column: place.column + 1,
+            row: place.row,
+        }
+    } else {
+        Place {
+            column: 1,
+            row: place.row + 1,
+        }
+    }
+}
+
+// The trailer of a list whose records are the bytes before `at`.
+fn put_trailer(out: &mut [u8], at: usize, trailer: Trailer)
+    requires { ⌜ at + 16 ≤ length (now out) ⌝ }
+    requires { ⌜ Halves trailer ⌝ }
+    ensures { λ _. ⌜ now (out .exit) ≡ splice at (trailerBytes at (trailer .width) (trailer .depth) (trailer .step) (trailer .radius)) (now (out .entry)) ⌝ }
+{
+    put_four(out, at, *b"CUT1");
+    put_word(out, at + 4, at as u64);
+    put_word(
+        out,
+        at + 8,
+        pair(trailer.width as u64, trailer.depth as u64),
+    );
+    put_word(out, at + 12, pair(trailer.step, trailer.radius));
 }

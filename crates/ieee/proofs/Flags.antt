@@ -63,13 +63,16 @@ few f op mode b =
     (either-few (eqb t (infinity f)) _ _ (few-infinity f op s)
     (few-finite f op mode s t))))
 
+pub flags-small : (f : Format) (op : Op) (mode : Mode) (b : ℕ) → answerOf f op mode b .flags < 32
+flags-small f op mode b = few f op mode b .small
+
 module _ (operation rounding b status : ℕ) (accepted : binary32Refusal operation rounding ≡ 0) where
   -- an accepted call returns one of the 32 statuses, its unknown bits zero,
   pub status-small : binary32Status operation rounding b status < 32
   status-small =
       rw (accepted-status operation rounding b accepted status)
       (or-lt 5 (status % 32) (answerOf binary32 (opOf operation) (modeOf rounding) b .flags) (mod-lt status (lit< tt))
-      (few binary32 (opOf operation) (modeOf rounding) b .small))
+      (flags-small binary32 (opOf operation) (modeOf rounding) b))
 
   -- in which a flag stands exactly where it stood or the answer has it,
   pub status-joins : (k : ℕ)

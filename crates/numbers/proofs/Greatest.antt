@@ -1,15 +1,13 @@
 -- `greatest` gives the greatest number below 2^n that passes; and the squares' test, which every table and root here uses.
 -- Assumes nothing.
 use mathlib.Core.Path.{_≡_, refl, subst, sym, ap, _∙_}
-use mathlib.Core.Bool.{Bool, true, false, not, _&&_}
+use mathlib.Core.Bool.{Bool, true, false}
 use mathlib.Core.Logic.{by-cases}
 use Prim.Native.Nat.{ℕ, zero, suc, _+_, _*_, _^_, _≤_, _<_, zero-le}
 use native.Mathlib.Nat.{pow-suc, zero-add, le-trans, mul-le-mul, mul-le-mul-right}
 use native.Mathlib.Decide.{decLt}
 use native.Mathlib.Omega.{arith}
-use mir.Facts.{and-yes}
-use lib.Dec.{T, T-not, ltb, leb, ltb→lt, leb→le, le→leb}
-use Rattle.numbers.specs.Table.{tight}
+use lib.Dec.{T, leb, leb→le, le→leb}
 use Rattle.numbers.specs.Greatest.{keep, greatestFrom, greatest}
 
 -- g is at least w and below m, passes the test, and the next number, where it is below m, does not
@@ -62,14 +60,6 @@ module _ (n : ℕ) (test : ℕ → Bool) where
       let f = greatest-found (anti 0 x zero-le t) in
       let low = greatest-above anti x t h in
       by-cases (decLt x (greatest n test)) (λ l. absurd (fails (anti (suc x) (greatest n test) l (f .passes)))) (λ l. omega arith)
-
--- the same from one computed test
-pub greatest-tight : (n : ℕ) (test : ℕ → Bool) → Antitone test → (x : ℕ) → T (tight n test x) → greatest n test ≡ x
-greatest-tight n test anti x t =
-    let r = and-yes (test x && not (test (suc x))) (ltb (suc x) (2 ^ n)) t in
-    let q = and-yes (test x) (not (test (suc x))) (r .0) in
-    let l : suc x < 2 ^ n = ltb→lt (suc x) (2 ^ n) (r .1) in
-    greatest-is n test anti x (q .0) (T-not (test (suc x)) (q .1)) (omega arith)
 
 -- the square of w, times a, is at most b
 abbrev pub squareFits : ℕ → ℕ → ℕ → Bool

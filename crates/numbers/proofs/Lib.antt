@@ -6,4 +6,3 @@ pub mod Products
 pub mod Ring
 pub mod SquareRoot
 pub mod Squares
-pub mod Table

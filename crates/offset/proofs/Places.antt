@@ -1,20 +1,19 @@
 -- From 2n over √q, floored, and what is left, to n over √q, rounded: the floor is half of it, its last bit and the remainder say the
 -- place. Assumes nothing.
-use Prim.Native.Nat.{ℕ, suc, _+_, _*_, _/_, _%_, _^_, _≤_, _<_}
-use mathlib.Core.Path.{_≡_, refl, sym, ap, _∙_, subst}
+use Prim.Native.Nat.{ℕ, suc, _+_, _*_, _/_, _%_, _≤_, _<_}
+use mathlib.Core.Path.{_≡_, refl, ap, _∙_, subst}
 use mathlib.Core.Bool.{Bool, true, false, cond, not}
-use mathlib.Core.List.{List, [], _∷_}
+use mathlib.Core.List.{[], _∷_}
 use mathlib.Core.Logic.{by-cases}
 use native.Mathlib.Nat.{div-add-mod, mod-lt, mul-div-le, mul-div-right, lt-mul-div-succ, div-lt-iff-lt-mul, mul-le-mul, mul-le-mul-right, mul-le-mul-left}
 use native.Mathlib.Numerals.{add-one}
 use native.Mathlib.Decide.{decLt}
 use native.Mathlib.Omega.{arith}
 use borrow.Author.Tests.{lt-ltb, le-ltb, eq-eqb, ne-eqb}
-use lib.Dec.{eqb, leb, ltb, le→leb, leb→le}
+use lib.Dec.{eqb, leb, le→leb, leb→le}
 use mir.Syntax.{w64}
 use mir.Val.{Fits}
 use Rattle.kinds.specs.Rounding.{Mode, Place, exact, away, placeBy, placeOf, roundedBy}
-use Rattle.numbers.specs.Greatest.{greatest}
 use Rattle.numbers.proofs.Greatest.{greatest-is, squareFits, square-antitone}
 use Rattle.numbers.proofs.Ring.{v, #, _⊕_, _⊗_, _⊙_⊑_, nlin}
 use Rattle.offset.specs.Offset.{floorOver, placeOver, roundedOver}

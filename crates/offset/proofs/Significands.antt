@@ -3,17 +3,17 @@ use Prim.Native.Nat.{ℕ, suc, _+_, _-_, _*_, _/_, _%_, _^_, _≤_, _<_}
 use mathlib.Core.Path.{_≡_, sym, ap, _∙_, subst}
 use mathlib.Core.List.{List, [], _∷_}
 use mathlib.Core.Logic.{by-cases}
-use native.Mathlib.Nat.{pow-suc, mod-eq-of-lt, mod-lt, div-add-mod, mul-div-le, lt-mul-div-succ, mul-le-mul, mul-le-mul-left, mul-le-mul-right, pow-le-pow-right}
+use native.Mathlib.Nat.{pow-suc, mod-eq-of-lt, mod-lt, div-add-mod, mul-div-le, lt-mul-div-succ, mul-le-mul, mul-le-mul-right, pow-le-pow-right}
 use native.Mathlib.Decide.{decLt}
 use native.Mathlib.Omega.{arith}
 use lib.Count.{leadingZeros, leading-top}
 use lib.Pow.{pow-pos, pow-add}
 use mir.Syntax.{w64}
 use mir.Val.{Fits}
-use Rattle.numbers.proofs.Ring.{E, v, #, _⊕_, _⊗_, H, _⊙_⊑_, nlin, nlin×}
+use Rattle.numbers.proofs.Ring.{E, v, #, _⊕_, _⊗_, _⊙_⊑_, nlin, nlin×}
 use Rattle.kinds.specs.Operation.{inverseRoot}
 use Rattle.significand.specs.Steps.{rawOf}
-use Rattle.significand.specs.Distance.{Significand, Within}
+use Rattle.significand.specs.Distance.{Significand, Near}
 use Rattle.significand.proofs.Distance.{distance}
 use Rattle.offset.specs.Inverse.{InverseOf}
 
@@ -158,7 +158,7 @@ parity-most j = omega (arith, mod-lt j {m = 2} (omega arith))
 parity-power : (p : ℕ) → p ≤ 1 → (1 ≤ 2 ^ p) × (2 ^ p ≤ 2)
 parity-power p h = (pow-pos p, pow-le-pow-right {n = 2} (omega arith) h)
 
-module _ (q : ℕ) (pos : 0 < q) (small : q < 2 ^ 35) (g : ℕ) (near : Within inverseRoot 7 3 (significandOf q) (exponentOf q % 2) 8 g) where
+module _ (q : ℕ) (pos : 0 < q) (small : q < 2 ^ 35) (g : ℕ) (near : Near inverseRoot 7 3 (significandOf q) (exponentOf q % 2) 8 g) where
   inverse-near : (24 ≤ g) × InverseOf q (g - 24) (27 + exponentOf q / 2)
   inverse-near =
       let y : ℕ = significandOf q in
@@ -188,10 +188,10 @@ module _ (q : ℕ) (pos : 0 < q) (small : q < 2 ^ 35) (g : ℕ) (near : Within i
       )
 
 module _ (q : ℕ) (pos : 0 < q) (small : q < 2 ^ 35) (g : ℕ) (raw : g ≡ rawOf 7 3 inverseRoot (significandOf q) (exponentOf q % 2)) where
-  near : Within inverseRoot 7 3 (significandOf q) (exponentOf q % 2) 8 g
+  near : Near inverseRoot 7 3 (significandOf q) (exponentOf q % 2) 8 g
   near =
       let Y : Significand 7 3 (significandOf q) = record { least = significand-least q pos small; below = significand-most q pos small } in
-      subst (λ (x : ℕ). Within inverseRoot 7 3 (significandOf q) (exponentOf q % 2) 8 x) (sym raw)
+      subst (λ (x : ℕ). Near inverseRoot 7 3 (significandOf q) (exponentOf q % 2) 8 x) (sym raw)
       (distance inverseRoot 7 3 (significandOf q) (exponentOf q % 2) (omega arith) (parity-most (exponentOf q)) Y)
 
   pub answer-above : 24 ≤ g

@@ -1,7 +1,6 @@
 -- Where the search for 2n over √q begins: at n·low over 2^shift, floored, which is the floor or one below it.
 -- Assumes nothing.
-use Prim.Native.Nat.{ℕ, _+_, _-_, _*_, _/_, _^_, _≤_, _<_}
-use mathlib.Core.Path.{_≡_}
+use Prim.Native.Nat.{ℕ, _+_, _*_, _/_, _^_, _≤_, _<_}
 use mathlib.Core.List.{List, [], _∷_}
 use mathlib.Core.Logic.{by-cases}
 use native.Mathlib.Nat.{mul-le-mul, mul-pos, mul-div-le, lt-mul-div-succ}
@@ -10,8 +9,8 @@ use native.Mathlib.Omega.{arith}
 use lib.Pow.{pow-pos}
 use mir.Syntax.{w64}
 use mir.Val.{Fits}
-use Rattle.numbers.proofs.Ring.{E, v, #, _⊕_, _⊗_, H, _⊙_⊑_, nlin, nlin×}
-use Rattle.offset.specs.Inverse.{InverseOf, DoubledOver, Sizes, radiusMost}
+use Rattle.numbers.proofs.Ring.{E, v, #, _⊕_, _⊗_, _⊙_⊑_, nlin, nlin×}
+use Rattle.offset.specs.Inverse.{InverseOf, Sizes, radiusMost}
 
 abbrev vn : E
 vn = v 0
@@ -136,8 +135,3 @@ module _ (n q : ℕ) (sizes : Sizes n q) where
         high-enough n q low (2 ^ shift) (n * low / 2 ^ shift) (sizes .least) (lt-mul-div-succ (n * low) (pow-pos shift))
         (fine n q low (2 ^ shift) 0 (inverse .least) (inverse .below) (sizes .ratio))
         (inverse .above)
-
--- one step up
-pub stepped : (n q t left : ℕ) → t * t * q + left ≡ 4 * (n * n) → 2 * (t * q) + q ≤ left → 4 * (n * n) < (t + 2) * (t + 2) * q
-    → DoubledOver n q (t + 1) (left - (2 * (t * q) + q))
-stepped n q t left is next above = record { whole = omega arith; last = omega arith }

@@ -1,14 +1,14 @@
 -- No offset lies halfway between two whole numbers, so that no tie is ever rounded. Assumes nothing.
 use Prim.Native.Nat.{ℕ, zero, suc, _+_, _*_, _/_, _%_, _≤_, _<_}
-use mathlib.Core.Path.{_≡_, refl, ap, _∙_}
+use mathlib.Core.Path.{_≡_, refl, ap}
 use mathlib.Core.Bool.{Bool, true, false, cond}
 use native.Mathlib.Nat.{mod-lt, div-add-mod, mul-pos}
 use native.Mathlib.Omega.{arith}
 use borrow.Author.Tests.{eqb-true}
 use lib.Dec.{eqb, ltb}
 use lib.IntN.{ℤ, natAbs}
-use Rattle.kinds.specs.Rounding.{Place, exact, below, half, above, placeBy}
-use Rattle.numbers.proofs.Squares.{PerfectSquare, square-same, square-part}
+use Rattle.kinds.specs.Rounding.{exact, below, half, above, placeBy}
+use Rattle.numbers.proofs.Squares.{square-same, square-part}
 use Rattle.offset.specs.Offset.{squaredLength, placeOver}
 
 -- a square is 0 or 1 more than a multiple of 4, as its root is even or odd

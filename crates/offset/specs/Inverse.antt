@@ -2,7 +2,7 @@
 use Prim.Native.Nat.{ℕ, _+_, _*_, _^_, _≤_, _<_}
 use mathlib.Core.Path.{_≡_}
 
--- low over 2^(shift + 1) is at most 1 over √q, and (low + 32) over 2^(shift + 1) is above it
+-- low over 2^(shift + 1) is at most 1 over √q, and (low + 32) over 2^(shift + 1) is at least that
 pub record InverseOf (q low shift : ℕ) : Type 0 where
   pub least : 2 ^ 26 ≤ low
   pub most : low < 2 ^ 28

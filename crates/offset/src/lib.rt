@@ -1,4 +1,5 @@
-// An offset's magnitude, n over √q as a whole number, from an inverse root that is a little too small and a remainder.
+// An offset's magnitude, a component of the normal times the radius over the normal's length, as a whole number: an inverse root that
+// is a little too small gives a start, a remainder decides.
 use kinds::Rounding;
 ghost use mathlib.Core.Path.{_≡_};
 ghost use mathlib.Core.Bool.{not};
@@ -8,14 +9,16 @@ ghost use Rattle.kinds.specs.Rounding.{modeOf, placeOf, roundedBy};
 ghost use Rattle.offset.specs.Offset.{roundedOver};
 ghost use Rattle.offset.specs.Inverse.{InverseOf, DoubledOver, Ranges, Sizes};
 
-// What is worked out once for a point: 1 over √q is at least low over 2^(shift + 1).
+// 1 over √q from below, worked out once for a point: it is at least low over 2^(shift + 1), and at most (low + 32)
+// over that power.
 pub struct Inverse {
     pub low: u64,
     pub shift: u32,
 }
 
-// q is brought to a significand of 24 bits and a parity, p of its exponent; the raw inverse root of those is lowered by its
-// distance and by what the significand leaves off.
+// Prepares a squared length. Its 24 highest bits are a significand, which is at most one unit too small, and the place of the highest
+// is an exponent, whose parity goes with the significand and whose half is a shift. The raw answer g is lowered by 24: by 8, its
+// distance, and by 16, which the unit of the significand makes at most.
 pub fn inverse_of(q: u64) -> Inverse
     requires { ⌜ (0 < q) × (q < 2 ^ 35) ⌝ }
     ensures { λ r. ⌜ InverseOf q (r .low) (r .shift) ⌝ }
@@ -24,16 +27,9 @@ pub fn inverse_of(q: u64) -> Inverse
     let exponent = 63 - zeros;
     let y = ((q << zeros) >> 40) as u32;
     let g = raw::inverse_root(y, exponent % 2);
-    Inverse {
-        low: (g as u64) - 24,
-        shift: 27 + exponent / 2,
-    }
-}
-
-// 2n over √q, floored, and what is left of 4·n².
-struct Doubled {
-    floor: u64,
-    left: u64,
+    let low = (g as u64) - 24;
+    let shift = 27 + exponent / 2;
+    Inverse { low, shift }
 }
 
 // The magnitude of an offset: component × radius over √q, rounded for the sign given.
@@ -52,7 +48,13 @@ pub fn rounded_over(
     rounded(rounding, negative, doubled.floor, doubled.left)
 }
 
-// The start is at most one too small: a second remainder decides.
+// 2n over √q, floored, and what is left of 4·n².
+struct Doubled {
+    floor: u64,
+    left: u64,
+}
+
+// The start is the floor or one below it: one step up, where the remainder allows it, is enough.
 fn doubled_over(n: u64, q: u64, inverse: Inverse) -> Doubled
     requires { ⌜ Sizes n q × InverseOf q (inverse .low) (inverse .shift) ⌝ }
     ensures { λ r. ⌜ DoubledOver n q (r .floor) (r .left) ⌝ }
@@ -70,7 +72,7 @@ fn doubled_over(n: u64, q: u64, inverse: Inverse) -> Doubled
     }
 }
 
-// 4·n² less t²·q.
+// 4·n² less t²·q. The products stay below 2^63.
 fn remainder(n: u64, q: u64, t: u64) -> u64
     requires { ⌜ Sizes n q × (t * t * q ≤ 4 * (n * n)) ⌝ }
     ensures { λ r. ⌜ t * t * q + r ≡ 4 * (n * n) ⌝ }
@@ -78,7 +80,7 @@ fn remainder(n: u64, q: u64, t: u64) -> u64
     4 * (n * n) - t * q * t
 }
 
-// The last bit of the doubled floor is the guard bit, and the remainder is the sticky one.
+// The last bit of the doubled floor is the guard bit, and whether anything is left the sticky bit.
 fn rounded(rounding: Rounding, negative: bool, floor: u64, left: u64) -> u64
     ensures { λ r. ⌜ r ≡ roundedBy (modeOf (rounding .0)) negative (floor / 2) (placeOf (eqb (floor % 2) 1) (not (eqb left 0))) ⌝ }
 {

@@ -9,6 +9,7 @@ use lib.Dec.{T, eqb, leb, ltb}
 use Rattle.kinds.specs.Operation.{Op, isOperation, opOf, isReciprocal, reciprocal, root, inverseRoot}
 use Rattle.kinds.specs.Question.{ask}
 use Rattle.significand.specs.Call.{isSignificand, isParity, rawRefusal}
+use Rattle.ieee.specs.Call.{binary32Refusal}
 
 -- operation 1 is the reciprocal, and no other number is
 named : (a b : Bool) → isReciprocal (cond a reciprocal (cond b root inverseRoot)) ≡ a
@@ -28,8 +29,14 @@ pub refusal-is : (operation y p q r s : ℕ)
 unfolding rawRefusal
 refusal-is operation y p q r s eq er es = rw (reciprocal-named operation) (cc)
 
+-- the two questions of the binary32 call as the code asks them
+pub binary32-refusal-is : (operation rounding q r : ℕ) → q ≡ ask (leb rounding 3) 2 0 → r ≡ ask (leb 1 operation && leb operation 3) 1 q
+    → r ≡ binary32Refusal operation rounding
+unfolding binary32Refusal
+binary32-refusal-is operation rounding q r eq er = cc
+
 -- a question that did not give its number was answered yes
-yes : (t : Bool) (n rest : ℕ) → ask t (suc n) rest ≡ 0 → T t × (rest ≡ 0)
+pub yes : (t : Bool) (n rest : ℕ) → ask t (suc n) rest ≡ 0 → T t × (rest ≡ 0)
 unfolding ask
 yes true n rest e = (tt, e)
 yes false n rest e = absurd (omega arith)

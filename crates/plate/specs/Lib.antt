@@ -1,3 +1,7 @@
-pub mod Raw
-pub mod Packed
 pub mod Status
+pub mod Raw
+pub mod Binary32
+pub mod List
+pub mod Packed
+pub mod Bracket
+pub mod Table

@@ -2,10 +2,17 @@
 // the number of the refusal.
 ghost use mathlib.Core.Path.{_≡_};
 ghost use Prim.Native.Nat.{_+_, _*_, _^_};
+ghost use lib.ListN.{length};
 ghost use Rattle.significand.specs.Call.{rawRefusal, rawAnswer};
+ghost use Rattle.ieee.specs.Call.{binary32Refusal, binary32Bits, binary32Status};
+ghost use Rattle.cutter.specs.Call.{listRefusal, listAnswer, bufferAfter};
 ghost use Rattle.plate.specs.Packed.{packed};
+use crate::Status;
+use crate::binary32;
+use crate::list;
 use crate::raw;
 use kinds::Operation;
+use kinds::Rounding;
 
 // The raw call; it has no status, so those bits are 0.
 #[no_mangle]
@@ -14,4 +21,27 @@ pub extern "C" fn plate_raw(operation: u8, significand: u32, parity: u8) -> u64
 {
     let r = raw(Operation(operation), significand, parity);
     (r.refusal as u64) * 1099511627776 + r.answer as u64
+}
+
+// The binary32 call.
+#[no_mangle]
+pub extern "C" fn plate_binary32(operation: u8, rounding: u8, status: u8, bits: u32) -> u64
+    ensures { λ r. ⌜ r ≡ packed (binary32Refusal operation rounding) (binary32Status operation rounding bits status) (binary32Bits operation rounding bits) ⌝ }
+{
+    let r = binary32(
+        Operation(operation),
+        Rounding(rounding),
+        bits,
+        Status { flags: status },
+    );
+    (r.refusal as u64) * 1099511627776 + (r.status.flags as u64) * 4294967296 + r.bits as u64
+}
+
+// The list call; it has no status either.
+#[no_mangle]
+pub extern "C" fn plate_list(rounding: u8, map: &[u8], buffer: &mut [u8]) -> u64
+    ensures { λ r. ⌜ (r ≡ packed (listRefusal rounding (now (map .entry)) (length (now (buffer .entry)))) 0 (listAnswer rounding (now (map .entry)) (length (now (buffer .entry))))) × (now (buffer .exit) ≡ bufferAfter rounding (now (map .entry)) (now (buffer .entry))) ⌝ }
+{
+    let r = list(Rounding(rounding), map, buffer);
+    (r.refusal as u64) * 1099511627776 + r.length as u64
 }

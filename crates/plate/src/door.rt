@@ -2,6 +2,7 @@
 ghost use mathlib.Core.Path.{_≡_};
 ghost use Rattle.kinds.specs.Question.{ask as Question·ask};
 ghost use Rattle.significand.specs.Call.{rawRefusal};
+ghost use Rattle.ieee.specs.Call.{binary32Refusal};
 use kinds::Operation;
 
 // One question: what the later ones give where the answer is yes, and its number where it is no.
@@ -22,4 +23,13 @@ pub fn raw_refusal(operation: u8, significand: u32, parity: u8) -> u8
     let fourth = ask(even | odd, 4, 0);
     let third = ask(sized, 3, fourth);
     ask(known, 1, third)
+}
+
+// Questions 1 and 2.
+pub fn binary32_refusal(operation: u8, rounding: u8) -> u8
+    ensures { λ r. ⌜ r ≡ binary32Refusal operation rounding ⌝ }
+{
+    let known = (1 <= operation) & (operation <= 3);
+    let second = ask(rounding <= 3, 2, 0);
+    ask(known, 1, second)
 }

@@ -1,16 +1,17 @@
 // The plate unit. Every call that is open to users stands in this file and, for callers from C, in c.rt, and nowhere else. None asks
 // anything of its caller: an operand that a call cannot take gets the number of the first question that it fails.
+mod answers;
 mod c;
 mod door;
 
 ghost use mathlib.Core.Path.{_≡_};
-ghost use Rattle.kinds.specs.Operation.{opOf};
-ghost use Rattle.significand.specs.Steps.{rawOf};
-ghost use Rattle.significand.specs.Call.{rawRefusal};
-ghost use Rattle.plate.specs.Raw.{rawCall};
 ghost use Rattle.plate.specs.Status.{raised, cleared};
+ghost use Rattle.plate.specs.Raw.{rawCall};
+ghost use Rattle.plate.specs.Binary32.{binary32Call};
+ghost use Rattle.plate.specs.List.{ListCall};
 pub use kinds::Flag;
 pub use kinds::Operation;
+pub use kinds::Rounding;
 
 // The flags that were raised since the status was last cleared, one bit each.
 pub struct Status {
@@ -25,12 +26,12 @@ impl Status {
         Status { flags: 0 }
     }
 
-    // The status with a flag raised; the others stay as they are.
+    // The status with a flag raised; the flags that stand stay.
     pub fn raise(self, flag: Flag) -> Status
         ensures { λ r. ⌜ r ≡ raised self (flag .0) ⌝ }
     {
         Status {
-            flags: self.flags | flag.0,
+            flags: (self.flags % 32) | (flag.0 % 32),
         }
     }
 
@@ -58,20 +59,57 @@ pub fn raw(operation: Operation, significand: u32, parity: u8) -> RawReply
     }
     RawReply {
         refusal,
-        answer: raw_answer(operation.0, significand, parity),
+        answer: answers::raw_answer(operation.0, significand, parity),
     }
 }
 
-// g of an accepted call.
-fn raw_answer(operation: u8, significand: u32, parity: u8) -> u32
-    requires { ⌜ rawRefusal operation significand parity ≡ 0 ⌝ }
-    ensures { λ r. ⌜ r ≡ rawOf 7 3 (opOf operation) significand parity ⌝ }
+// What the binary32 call gives back: refusal 0 with the answer's bits and the new status; or the number of a question, with bits 0 and
+// the status as given.
+pub struct Binary32Reply {
+    pub refusal: u8,
+    pub bits: u32,
+    pub status: Status,
+}
+
+// The binary32 call: an operation on the number with these bits, rounded. The flags that it raises are joined to the status.
+pub fn binary32(
+    operation: Operation,
+    rounding: Rounding,
+    bits: u32,
+    status: Status,
+) -> Binary32Reply
+    ensures { λ r. ⌜ r ≡ binary32Call (operation .0) (rounding .0) bits status ⌝ }
 {
-    if operation == Operation::RECIPROCAL.0 {
-        return raw::reciprocal(significand);
+    let refusal = door::binary32_refusal(operation.0, rounding.0);
+    if refusal != 0 {
+        return Binary32Reply {
+            refusal,
+            bits: 0,
+            status,
+        };
     }
-    if operation == Operation::ROOT.0 {
-        return raw::root(significand, parity as u32);
+    let rounded = binary32::answer(operation, rounding, bits);
+    Binary32Reply {
+        refusal,
+        bits: rounded.bits,
+        status: status.raise(Flag(rounded.flags)),
     }
-    raw::inverse_root(significand, parity as u32)
+}
+
+// What the list call gives back: refusal 0 with the length of the list; or the number of a question, with length 0.
+pub struct ListReply {
+    pub refusal: u8,
+    pub length: usize,
+}
+
+// The list call: the cutter's centres over a map, put at the front of the lent buffer; the bytes behind the list are kept. After a
+// refusal the buffer holds what it held.
+pub fn list(rounding: Rounding, map: &[u8], buffer: &mut [u8]) -> ListReply
+    ensures { λ r. ⌜ ListCall (rounding .0) (now (map .entry)) (now (buffer .entry)) r (now (buffer .exit)) ⌝ }
+{
+    let listed = cutter::list(rounding, map, buffer);
+    ListReply {
+        refusal: listed.refusal,
+        length: listed.length,
+    }
 }

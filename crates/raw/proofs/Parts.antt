@@ -7,31 +7,16 @@ use native.Mathlib.Omega.{arith}
 use Rattle.kinds.specs.Operation.{Op, reciprocal, root, inverseRoot}
 use Rattle.significand.specs.Steps.{plus, less, digit2, digit3, carryOf, indexOf, factorOf, signOf, reducedOf, sumOf, seriesOf, multiplierOf, rawOf}
 use lib.Dec.{leb}
-use Rattle.raw.proofs.Bounds.{factor-small, factor-near, reduced-small}
+use Rattle.raw.proofs.Bounds.{reduced-small}
 use Rattle.raw.specs.declared.Reduction.{Reduction}
 use Rattle.raw.specs.declared.Terms.{Terms}
 use Rattle.raw.specs.Parts.{Products, Reduced}
 
--- steps 1 and 2, by what the table and the magnitude give
-module _ (y r : ℕ) (low : 8388608 ≤ y) (high : y < 16777216) (e : r ≡ factorOf 7 (y / 65536)) where
-  pub product-fits : y * r < 2164260864
-  unfolding indexOf
-  product-fits = rw e (factor-near y low high .below)
-
-  pub reduced-is : (m : ℕ) → m ≡ reducedOf 7 3 (y * r)
-      → Reduced y (record { index = y / 65536; factor = r; positive = leb 2147483648 (y * r); magnitude = m })
-  unfolding indexOf signOf
-  reduced-is m f =
-      record {
-        index = refl;
-        factor = e;
-        sign = rw e refl;
-        magnitude = cc;
-        low = omega arith;
-        high = omega arith;
-        factor-small = rw e (factor-small (y / 65536) (omega arith));
-        magnitude-small = rw (f, e) (reduced-small (y * factorOf 7 (y / 65536)) (factor-near y low high));
-      }
+-- step 2, for a significand y and its R
+pub reduced-is : (y r m : ℕ) → 8388608 ≤ y → y < 16777216 → r ≡ factorOf 7 (y / 65536) → m ≡ reducedOf 7 3 (y * r)
+    → Reduced (y * r) (record { positive = leb 2147483648 (y * r); magnitude = m })
+unfolding signOf
+reduced-is y r m low high e f = record { sign = refl; magnitude = f; small = rw f (reduced-small y low high r e) }
 
 module _ (a : ℕ) (t : Terms) (p : Products a t) (first sum : ℕ) where
   pub reciprocal-is : (s : Bool) → first ≡ less s 268435456 a → sum ≡ less s (128 * (first + t .square) + 2 * t .cross) (t .cube)
@@ -53,13 +38,13 @@ module _ (a : ℕ) (t : Terms) (p : Products a t) (first sum : ℕ) where
   inverse-root-is false e f = cc (mul-assoc 768 (digit2 7 a) (digit2 7 a), mul-assoc 12 (digit2 7 a) (digit3 7 a), mul-assoc 5 (carryOf 7 (digit2 7 a)) (digit2 7 a))
 
 -- M times b of the reduced significand is the raw answer
-pub raw-is : (op : Op) (y p m b g : ℕ) (d : Reduction) → Reduced y d → m ≡ multiplierOf 7 op (factorOf 7 (d .index)) p
-    → b ≡ seriesOf 7 op (d .positive) (d .magnitude) → g ≡ m * b / 268435456 → g ≡ rawOf 7 3 op y p
-unfolding rawOf
-raw-is op y p m b g d r em eb eg = cc
+module _ (y r b g : ℕ) (d : Reduction) (e : r ≡ factorOf 7 (y / 65536)) (h : Reduced (y * r) d) where
+  pub raw-is : (op : Op) (p m : ℕ) → m ≡ multiplierOf 7 op (factorOf 7 (y / 65536)) p → b ≡ seriesOf 7 op (d .positive) (d .magnitude)
+      → g ≡ m * b / 268435456 → g ≡ rawOf 7 3 op y p
+  unfolding rawOf indexOf
+  raw-is op p m em eb eg = cc
 
--- for the reciprocal M is R × 2^20
-pub reciprocal-raw-is : (y b g : ℕ) (d : Reduction) → Reduced y d → b ≡ seriesOf 7 reciprocal (d .positive) (d .magnitude)
-    → g ≡ d .factor * 1048576 * b / 268435456 → g ≡ rawOf 7 3 reciprocal y 0
-unfolding multiplierOf
-reciprocal-raw-is y b g d r eb eg = raw-is reciprocal y 0 (d .factor * 1048576) b g d r (cc) eb eg
+  -- for the reciprocal M is R × 2^20
+  pub reciprocal-raw-is : b ≡ seriesOf 7 reciprocal (d .positive) (d .magnitude) → g ≡ r * 1048576 * b / 268435456 → g ≡ rawOf 7 3 reciprocal y 0
+  unfolding multiplierOf
+  reciprocal-raw-is eb eg = raw-is reciprocal 0 (r * 1048576) (cc) eb eg

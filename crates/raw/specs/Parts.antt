@@ -1,20 +1,15 @@
 -- What the parts of the raw code hand to each other, at k = 7 and t = 3. Assumes nothing.
 use mathlib.Core.Path.{_≡_}
-use Prim.Native.Nat.{ℕ, _*_, _≤_, _<_, _^_}
-use Rattle.significand.specs.Steps.{indexOf, factorOf, signOf, reducedOf, digit2, digit3, carryOf}
+use Prim.Native.Nat.{ℕ, _*_, _<_, _^_}
+use Rattle.significand.specs.Steps.{signOf, reducedOf, digit2, digit3, carryOf}
 use Rattle.raw.specs.declared.Reduction.{Reduction}
 use Rattle.raw.specs.declared.Terms.{Terms}
 
--- steps 1 and 2 of the significand y: i, R, s and a
-pub record Reduced (y : ℕ) (d : Reduction) : Type 0 where
-  pub index : d .index ≡ indexOf 7 3 y
-  pub factor : d .factor ≡ factorOf 7 (indexOf 7 3 y)
-  pub sign : d .positive ≡ signOf 7 3 (y * factorOf 7 (indexOf 7 3 y))
-  pub magnitude : d .magnitude ≡ reducedOf 7 3 (y * factorOf 7 (indexOf 7 3 y))
-  pub low : 128 ≤ d .index
-  pub high : d .index < 256
-  pub factor-small : d .factor ≤ 256
-  pub magnitude-small : d .magnitude < 2 ^ 21
+-- step 2 of u, which is y × R: s and a, which has 21 bits
+pub record Reduced (u : ℕ) (d : Reduction) : Type 0 where
+  pub sign : d .positive ≡ signOf 7 3 u
+  pub magnitude : d .magnitude ≡ reducedOf 7 3 u
+  pub small : d .magnitude < 2 ^ 21
 
 -- the products of digits in the three sums: a2², a2·a3 and h·a2
 pub record Products (a : ℕ) (t : Terms) : Type 0 where

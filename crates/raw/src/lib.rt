@@ -1,32 +1,24 @@
 // The raw unit at k = 7: the reciprocal, the root and the inverse root of a significand by a table, a short series and one product.
 // The functions follow the numbered steps; an answer g stands for g / 2^28.
-mod tables;
-
 ghost use mathlib.Core.Path.{_≡_};
 ghost use Prim.Native.Nat.{_+_, _*_, _/_, _≤_, _<_, _^_};
 ghost use Rattle.kinds.specs.Operation.{Op, reciprocal as Op·reciprocal, root as Op·root, inverseRoot as Op·inverseRoot};
-ghost use Rattle.significand.specs.Steps.{plus as Steps·plus, less as Steps·less, reducedOf, seriesOf, rawOf};
+ghost use Rattle.significand.specs.Steps.{plus as Steps·plus, less as Steps·less, factorOf, reducedOf, seriesOf, rawOf};
 ghost use Rattle.raw.specs.Parts.{Reduced, Products};
 
-// i and R of a significand, and the sign and the magnitude of its reduction.
+// The sign and the magnitude of a reduction.
 struct Reduction {
-    index: usize,
-    factor: u64,
     positive: bool,
     magnitude: u64,
 }
 
-// Steps 1 and 2.
-fn reduce(y: u32) -> Reduction
-    requires { ⌜ (8388608 ≤ y) × (y < 16777216) ⌝ }
-    ensures { λ r. ⌜ Reduced y r ⌝ }
+// Step 2, for a significand y and its R.
+fn reduce(y: u32, r: u64) -> Reduction
+    requires { ⌜ (8388608 ≤ y) × (y < 16777216) × (r ≡ factorOf 7 (y / 2 ^ 16)) ⌝ }
+    ensures { λ d. ⌜ Reduced (y * r) d ⌝ }
 {
-    let index = (y >> 16) as usize;
-    let factor = tables::factor(index);
-    let u = (y as u64) * factor;
+    let u = (y as u64) * r;
     Reduction {
-        index,
-        factor,
         positive: 2147483648 <= u,
         magnitude: magnitude(u),
     }
@@ -128,9 +120,11 @@ pub fn reciprocal(y: u32) -> u32
     requires { ⌜ (8388608 ≤ y) × (y < 16777216) ⌝ }
     ensures { λ r. ⌜ r ≡ rawOf 7 3 Op·reciprocal y 0 ⌝ }
 {
-    let d = reduce(y);
+    let i = (y >> 16) as u8;
+    let r = tables::factor(i);
+    let d = reduce(y, r);
     let b = reciprocal_series(d.positive, d.magnitude);
-    scaled(d.factor * 1048576, b)
+    scaled(r * 1048576, b)
 }
 
 // The root of Y, or of 2Y where p is 1.
@@ -138,9 +132,11 @@ pub fn root(y: u32, p: u32) -> u32
     requires { ⌜ (8388608 ≤ y) × (y < 16777216) × (p ≤ 1) ⌝ }
     ensures { λ r. ⌜ r ≡ rawOf 7 3 Op·root y p ⌝ }
 {
-    let d = reduce(y);
+    let i = (y >> 16) as u8;
+    let r = tables::factor(i);
+    let d = reduce(y, r);
     let b = root_series(d.positive, d.magnitude);
-    scaled(tables::root(d.index, p as usize), b)
+    scaled(tables::root(i, p as u8), b)
 }
 
 // The inverse root of Y, or of 2Y where p is 1.
@@ -148,7 +144,9 @@ pub fn inverse_root(y: u32, p: u32) -> u32
     requires { ⌜ (8388608 ≤ y) × (y < 16777216) × (p ≤ 1) ⌝ }
     ensures { λ r. ⌜ r ≡ rawOf 7 3 Op·inverseRoot y p ⌝ }
 {
-    let d = reduce(y);
+    let i = (y >> 16) as u8;
+    let r = tables::factor(i);
+    let d = reduce(y, r);
     let b = inverse_root_series(d.positive, d.magnitude);
-    scaled(tables::inverse_root(d.index, p as usize), b)
+    scaled(tables::inverse_root(i, p as u8), b)
 }

@@ -87,6 +87,7 @@ module _ (k t y r p M b : ℕ) (h : 7 ≤ k) (e : p ≤ 1) (Y : Significand k t 
   F : Floored (2 ^ (4 * k)) M b g
   F = record { low = div-mul-le-self (M * b) (2 ^ (4 * k)); high = lt-div-mul-add (pow-pos (4 * k)) }
 
+  -- g less its reach is under the exact value, and g more its reach is over it
   under : (op : Op) → Multiplies op k r p M → Close op (2 ^ (4 * k)) (2 ^ t) (y * r) b → Under op k m y p (g - reachOf op)
   under reciprocal is C =
       omega (arith, recip-under K F (recip-twice k r p M h is) C, quotient-scale k m, mul-sub y g 12, K .significand, pow-pos (4 * k + m))
@@ -107,6 +108,7 @@ module _ (k t y r p M b : ℕ) (h : 7 ≤ k) (e : p ≤ 1) (Y : Significand k t 
   reach-small root = omega arith
   reach-small inverseRoot = omega arith
 
+  -- the law: g is within its reach, for any such M and b
   pub general : (op : Op) → Multiplies op k r p M → Close op (2 ^ (4 * k)) (2 ^ t) (y * r) b → Near op k t y p (reachOf op) g
   general op near C =
       record {

@@ -29,7 +29,7 @@ module _ (Z N X R M : ℕ) where
   pub recip-multiplier : R ≤ 2 * Z → N ≡ Z * Z * Z * Z → 2 * M ≡ R * (Z * Z * Z) → M ≤ N
   recip-multiplier h whole exactly = omega (arith, mul-le-mul-right (Z * Z * Z) h, whole)
 
--- N is Z⁴, T the unit of the last digit, P = 2^m with 2 P = T Z³, X = 2^p, and R from Z to 2 Z
+-- N is Z⁴, T = 2^t, P = 2^m with 2 P = T Z³, X = 2^p, and R from Z to 2 Z
 pub record Setting (Z N T P X y R : ℕ) : Type 0 where
   pub whole : N ≡ Z * Z * Z * Z
   pub half : 2 * P ≡ T * Z * Z * Z
@@ -130,7 +130,7 @@ module _ {Z N T P X y R M b g : ℕ} (K : Setting Z N T P X y R) (F : Floored N 
       exact-positive : 0 < N * N * N * T
       exact-positive = mul-pos (mul-pos (mul-pos (omega arith) (omega arith)) (omega arith)) (K .unit)
 
-      -- 2 P Z is N T
+      -- 2 P Z is N T, both multiplied by R N⁴
       exact : 2 * Z * R * N * N * (N * N * P) ≡ N * N * N * T * (R * (N * N))
       exact =
           omega (arith, ap (λ (m : ℕ). Z * R * N * N * N * N * m) (K .half), ap (λ (m : ℕ). R * N * N * N * N * T * m) (K .whole))

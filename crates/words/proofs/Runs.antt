@@ -1,12 +1,12 @@
 -- Runs of k bytes, one after the other: how long they are, what stands at a place of them, and a loop that puts one run a turn. Assumes nothing.
 use mathlib.Core.Path.{_≡_, refl, sym, ap, _∙_}
-use mathlib.Core.List.{List, [], _++_, append-nil, append-assoc}
+use mathlib.Core.List.{List, _++_, append-nil, append-assoc}
 use Prim.Native.Nat.{ℕ, zero, suc, _+_, _*_, _≤_, _<_}
 use native.Mathlib.Nat.{add-zero, add-assoc, zero-mul, suc-mul, mul-le-mul-right, not-suc-le-zero}
 use native.Mathlib.Numerals.{add-one}
 use native.Mathlib.Omega.{arith}
 use native.Mathlib.Decide.{decLt}
-use lib.ListN.{length, getD, take, drop, length-append, take-append-drop, List·getD-append}
+use lib.ListN.{length, getD, length-append, take-append-drop, List·getD-append}
 use lib.Seq.{getD-append-add, ext-getD}
 use Rattle.words.specs.Joined.{joined}
 use Rattle.words.specs.Word.{wordAt}

@@ -1,5 +1,4 @@
 -- A signed number taken apart into its sign and its magnitude. Assumes nothing.
-use Prim.Native.Nat.{ℕ}
 use lib.IntN.{ℤ, natAbs}
 use Rattle.words.specs.Signed.{isNegative}
 use Rattle.words.specs.declared.Signed.{Signed}

@@ -1,6 +1,6 @@
 // Little-endian numbers and letters in bytes, read and put, and signed numbers in unsigned code.
 ghost use mathlib.Core.Path.{_≡_};
-ghost use Prim.Native.Nat.{_+_, _*_, _%_, _^_, _≤_, _<_};
+ghost use Prim.Native.Nat.{_+_, _*_, _%_, _≤_, _<_};
 ghost use lib.ListN.{length};
 ghost use lib.IntN.{pos, _+ℤ_, subℕ};
 ghost use Rattle.words.specs.Word.{halfAt, wordAt, wordBytes, readsAt};

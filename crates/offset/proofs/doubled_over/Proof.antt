@@ -1,6 +1,7 @@
 -- `offset::doubled_over` meets its contract: the start is at most one too small, so that one step is enough. Assumes nothing.
+use native.Mathlib.Omega.{arith}
 use borrow.Author.Needs.{needs}
-use Rattle.offset.proofs.Start.{start-fits, start-below, start-above, product-fits, twice-fits, next-fits, more-fits, stepped}
+use Rattle.offset.proofs.Start.{start-fits, start-below, start-above, product-fits, twice-fits, next-fits, more-fits}
 use Rattle.offset.proofs.doubled_over.Statement.{statement}
 use Rattle.offset.proofs.doubled_over.Tie as tie
 
@@ -29,7 +30,9 @@ add-t11 : tie.Need-add-t11
 add-t11 c = search (more-fits, start-below)
 
 returns : tie.Need-returns
-returns c = search (stepped, start-above)
+returns c =
+    let a = c .before .before .before .before in
+    omega (arith, start-above (a .args .n) (a .args .q) (a .pre .0) (a .args .inverse .low) (a .args .inverse .shift) (a .pre .1))
 
 returns-2 : tie.Need-returns-2
 returns-2 c = search needs

@@ -1,4 +1,5 @@
 -- `offset::inverse_of` meets its contract: the raw answer lies within its distance, which is taken off. Assumes nothing.
+use native.Mathlib.Omega.{arith}
 use borrow.Author.Needs.{needs}
 use Rattle.offset.proofs.Significands.{zeros-most, zeros-fit, zeros-below, significand-least, significand-most, parity-most, answer-above, inverse-is}
 use Rattle.offset.proofs.inverse_of.Statement.{statement}
@@ -19,14 +20,16 @@ cast-y-2 c = search needs
 inverse-root-requires : tie.Need-inverse-root-requires
 inverse-root-requires c κs = (search significand-least, search significand-most, search parity-most)
 
-cast-t6 : tie.Need-cast-t6
-cast-t6 c = search needs
+cast-low : tie.Need-cast-low
+cast-low c = search needs
 
-sub-t7 : tie.Need-sub-t7
-sub-t7 c = search answer-above
+sub-low : tie.Need-sub-low
+sub-low c =
+    let a = c .before in
+    omega (arith, answer-above (a .args .q) (a .pre .0) (a .pre .1) (c .inverse-root .result) (c .inverse-root .ensures))
 
-add-t10 : tie.Need-add-t10
-add-t10 c = search needs
+add-shift : tie.Need-add-shift
+add-shift c = search needs
 
 returns : tie.Need-returns
 returns c = search inverse-is
@@ -40,7 +43,7 @@ inverse-of-spec =
     shl-y
     cast-y-2
     inverse-root-requires
-    cast-t6
-    sub-t7
-    add-t10
+    cast-low
+    sub-low
+    add-shift
     returns)

@@ -1,4 +1,5 @@
 -- `offset::remainder` meets its contract: the products fit, and the difference is not below zero. Assumes nothing.
+use native.Mathlib.Omega.{arith}
 use borrow.Author.Needs.{needs}
 use Rattle.offset.proofs.Start.{limit-fits, product-fits, square-fits}
 use Rattle.offset.proofs.remainder.Statement.{statement}
@@ -8,7 +9,7 @@ mul-result : tie.Need-mul-result
 mul-result c = search needs
 
 mul-result-2 : tie.Need-mul-result-2
-mul-result-2 c = search limit-fits
+mul-result-2 c = omega (arith, limit-fits (c .args .n) (c .args .q) (c .pre .0))
 
 mul-result-3 : tie.Need-mul-result-3
 mul-result-3 c = search product-fits

@@ -1,0 +1,59 @@
+-- `cutter::points::centre` meets its contract: the words are those of the map point plus the offsets. Assumes nothing.
+use borrow.Author.Needs.{needs}
+use Rattle.cutter.proofs.Centres.{column-fits, row-fits, column-small, row-small, centre-is}
+use Rattle.cutter.proofs.Slopes.{place-in, place-fits, line-fits}
+use Rattle.cutter.proofs.points.centre.Statement.{statement}
+use Rattle.cutter.proofs.points.centre.Tie as tie
+
+normal-at-requires : tie.Need-normal-at-requires
+normal-at-requires c κs = search needs
+
+offsets-of-requires : tie.Need-offsets-of-requires
+offsets-of-requires c κs = search needs
+
+mul-height-word : tie.Need-mul-height-word
+mul-height-word c = search line-fits
+
+add-height-word : tie.Need-add-height-word
+add-height-word c = search place-fits
+
+mul-height-word-2 : tie.Need-mul-height-word-2
+mul-height-word-2 c = search needs
+
+height-word-requires : tie.Need-height-word-requires
+height-word-requires c κs = (search place-in, search needs)
+
+mul-moved : tie.Need-mul-moved
+mul-moved c = search column-fits
+
+moved-requires : tie.Need-moved-requires
+moved-requires c κs = (search column-small, search needs)
+
+mul-moved-2 : tie.Need-mul-moved-2
+mul-moved-2 c = search row-fits
+
+moved-requires-2 : tie.Need-moved-requires-2
+moved-requires-2 c κs = (search row-small, search needs)
+
+lifted-requires : tie.Need-lifted-requires
+lifted-requires c κs = search needs
+
+returns : tie.Need-returns
+returns c = search centre-is
+
+pub centre-spec : {M : Type 1} → statement M
+centre-spec =
+    tie.close
+    (tie.spec
+    normal-at-requires
+    offsets-of-requires
+    mul-height-word
+    add-height-word
+    mul-height-word-2
+    height-word-requires
+    mul-moved
+    moved-requires
+    mul-moved-2
+    moved-requires-2
+    lifted-requires
+    returns)

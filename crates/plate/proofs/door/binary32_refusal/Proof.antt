@@ -1,0 +1,17 @@
+-- `plate::door::binary32_refusal` meets its contract. Assumes nothing.
+use Rattle.plate.proofs.Questions.{binary32-refusal-is}
+use borrow.Author.Needs.{needs}
+use Rattle.plate.proofs.door.binary32_refusal.Statement.{statement}
+use Rattle.plate.proofs.door.binary32_refusal.Tie as tie
+
+ask-requires : tie.Need-ask-requires
+ask-requires c κs = search needs
+
+ask-requires-2 : tie.Need-ask-requires-2
+ask-requires-2 c κs = search needs
+
+returns : tie.Need-returns
+returns c = search binary32-refusal-is
+
+pub binary32-refusal-spec : {M : Type 1} → statement M
+binary32-refusal-spec = tie.close (tie.spec ask-requires ask-requires-2 returns)
