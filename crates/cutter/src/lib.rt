@@ -8,7 +8,7 @@ ghost use Rattle.words.specs.Joined.{joined};
 ghost use Rattle.cutter.specs.List.{countOf, recordAt, trailerBytes, listLength, listBytes};
 ghost use Rattle.cutter.specs.Call.{listRefusal, bufferAfter};
 ghost use Rattle.cutter.specs.Asked.{Halves, Ready};
-ghost use Rattle.cutter.specs.Reply.{nextOf, listReply};
+ghost use Rattle.cutter.specs.Reply.{rowBytes, listReply};
 
 pub mod door;
 pub mod heights;
@@ -54,43 +54,33 @@ fn put_list(rounding: Rounding, map: &[u8], out: &mut [u8]) -> usize
     end + 16
 }
 
-// The column and the row of an inner point.
-pub struct Place {
-    pub column: usize,
-    pub row: usize,
-}
-
 // The records of all inner points, row by row, from the front on.
 fn put_points(rounding: Rounding, map: &[u8], out: &mut [u8], trailer: Trailer)
     requires { ⌜ Ready (now map) trailer ⌝ }
     requires { ⌜ 12 * ((trailer .width - 2) * (trailer .depth - 2)) ≤ length (now out) ⌝ }
     ensures { λ _. ⌜ now (out .exit) ≡ splice 0 (joined (recordAt (modeOf (rounding .0)) (now (map .entry))) (countOf (trailer .width) (trailer .depth))) (now (out .entry)) ⌝ }
 {
-    let count = (trailer.width - 2) * (trailer.depth - 2);
-    let mut place = Place { column: 1, row: 1 };
-    let mut n: usize = 0;
-    while n < count {
-        put_point(rounding, map, out, trailer, place.column, place.row, 12 * n);
-        place = next_place(trailer.width, place);
-        n += 1;
+    let rows = trailer.depth - 2;
+    let mut r: usize = 0;
+    while r < rows {
+        put_row(rounding, map, out, trailer, r);
+        r += 1;
     }
 }
 
-// The inner point after a point, row by row.
-fn next_place(width: usize, place: Place) -> Place
-    requires { ⌜ (place .column < 64) × (place .row < 64) ⌝ }
-    ensures { λ r. ⌜ r ≡ nextOf width place ⌝ }
+// The records of inner row r, counted from 0.
+fn put_row(rounding: Rounding, map: &[u8], out: &mut [u8], trailer: Trailer, r: usize)
+    requires { ⌜ Ready (now map) trailer ⌝ }
+    requires { ⌜ r < trailer .depth - 2 ⌝ }
+    requires { ⌜ 12 * ((trailer .width - 2) * (trailer .depth - 2)) ≤ length (now out) ⌝ }
+    ensures { λ _. ⌜ now (out .exit) ≡ splice (12 * (r * (trailer .width - 2))) (rowBytes (modeOf (rounding .0)) (now (map .entry)) (trailer .width - 2) r) (now (out .entry)) ⌝ }
 {
-    if place.column + 2 < width {
-        Place {
-            column: place.column + 1,
-            row: place.row,
-        }
-    } else {
-        Place {
-            column: 1,
-            row: place.row + 1,
-        }
+    let columns = trailer.width - 2;
+    let start = 12 * (r * columns);
+    let mut i: usize = 0;
+    while i < columns {
+        put_point(rounding, map, out, trailer, i + 1, r + 1, start + 12 * i);
+        i += 1;
     }
 }
 
