@@ -1,4 +1,4 @@
--- What the list call hands back, and a list's records row by row. Assumes nothing.
+-- What the list call hands back, and the rows of a map's inner points. Assumes nothing.
 use Prim.Native.Nat.{ℕ, _+_, _*_}
 use mathlib.Core.List.{List}
 use Rattle.kinds.specs.Rounding.{Mode}
@@ -11,10 +11,10 @@ use Rattle.cutter.specs.declared.Listed.{Listed}
 abbrev pub listReply : ℕ → List ℕ → ℕ → Listed
 listReply rounding m room = record { refusal = listRefusal rounding m room; length = listAnswer rounding m room }
 
--- record i of inner row r, of k records a row
-abbrev pub rowRecord : Mode → List ℕ → ℕ → ℕ → ℕ → List ℕ
-rowRecord mode m k r i = recordAt mode m (r * k + i)
+-- the record of point n of a row of k inner points, where row and n are counted from 0
+unfoldable pub rowRecord : Mode → List ℕ → ℕ → ℕ → ℕ → List ℕ
+rowRecord mode m k row n = recordAt mode m (row * k + n)
 
--- the records of inner row r
+-- the records of a row
 unfoldable pub rowBytes : Mode → List ℕ → ℕ → ℕ → List ℕ
-rowBytes mode m k r = joined (rowRecord mode m k r) k
+rowBytes mode m k row = joined (rowRecord mode m k row) k

@@ -48,10 +48,27 @@ fn put_list(rounding: Rounding, map: &[u8], out: &mut [u8]) -> usize
     ensures { λ r. ⌜ (r ≡ listLength (now (map .entry))) × (now (out .exit) ≡ splice 0 (listBytes (modeOf (rounding .0)) (now (map .entry))) (now (out .entry))) ⌝ }
 {
     let trailer = read_trailer(map);
-    put_points(rounding, map, out, trailer);
+    put_rounded(rounding, map, out, trailer);
     let end = 12 * ((trailer.width - 2) * (trailer.depth - 2));
     put_trailer(out, end, trailer);
     end + 16
+}
+
+// The records of all inner points: one call for each rounding, so that the compiler makes a loop for each.
+fn put_rounded(rounding: Rounding, map: &[u8], out: &mut [u8], trailer: Trailer)
+    requires { ⌜ Ready (now map) trailer ⌝ }
+    requires { ⌜ 12 * ((trailer .width - 2) * (trailer .depth - 2)) ≤ length (now out) ⌝ }
+    ensures { λ _. ⌜ now (out .exit) ≡ splice 0 (joined (recordAt (modeOf (rounding .0)) (now (map .entry))) (countOf (trailer .width) (trailer .depth))) (now (out .entry)) ⌝ }
+{
+    if rounding.0 == Rounding::NEAREST.0 {
+        put_points(Rounding::NEAREST, map, out, trailer);
+    } else if rounding.0 == Rounding::UP.0 {
+        put_points(Rounding::UP, map, out, trailer);
+    } else if rounding.0 == Rounding::DOWN.0 {
+        put_points(Rounding::DOWN, map, out, trailer);
+    } else {
+        put_points(Rounding::TOWARD_ZERO, map, out, trailer);
+    }
 }
 
 // The records of all inner points, row by row, from the front on.
@@ -61,26 +78,26 @@ fn put_points(rounding: Rounding, map: &[u8], out: &mut [u8], trailer: Trailer)
     ensures { λ _. ⌜ now (out .exit) ≡ splice 0 (joined (recordAt (modeOf (rounding .0)) (now (map .entry))) (countOf (trailer .width) (trailer .depth))) (now (out .entry)) ⌝ }
 {
     let rows = trailer.depth - 2;
-    let mut r: usize = 0;
-    while r < rows {
-        put_row(rounding, map, out, trailer, r);
-        r += 1;
+    let mut row: usize = 0;
+    while row < rows {
+        put_row(rounding, map, out, trailer, row);
+        row += 1;
     }
 }
 
-// The records of inner row r, counted from 0.
-fn put_row(rounding: Rounding, map: &[u8], out: &mut [u8], trailer: Trailer, r: usize)
+// The records of one row of inner points, behind those of the rows before it.
+fn put_row(rounding: Rounding, map: &[u8], out: &mut [u8], trailer: Trailer, row: usize)
     requires { ⌜ Ready (now map) trailer ⌝ }
-    requires { ⌜ r < trailer .depth - 2 ⌝ }
+    requires { ⌜ row < trailer .depth - 2 ⌝ }
     requires { ⌜ 12 * ((trailer .width - 2) * (trailer .depth - 2)) ≤ length (now out) ⌝ }
-    ensures { λ _. ⌜ now (out .exit) ≡ splice (12 * (r * (trailer .width - 2))) (rowBytes (modeOf (rounding .0)) (now (map .entry)) (trailer .width - 2) r) (now (out .entry)) ⌝ }
+    ensures { λ _. ⌜ now (out .exit) ≡ splice (row * (12 * (trailer .width - 2))) (rowBytes (modeOf (rounding .0)) (now (map .entry)) (trailer .width - 2) row) (now (out .entry)) ⌝ }
 {
-    let columns = trailer.width - 2;
-    let start = 12 * (r * columns);
-    let mut i: usize = 0;
-    while i < columns {
-        put_point(rounding, map, out, trailer, i + 1, r + 1, start + 12 * i);
-        i += 1;
+    let count = trailer.width - 2;
+    let first = row * (12 * count);
+    let mut n: usize = 0;
+    while n < count {
+        put_point(rounding, map, out, trailer, n + 1, row + 1, first + n * 12);
+        n += 1;
     }
 }
 

@@ -31,11 +31,18 @@ module _ (a : ℕ) (t : Terms) (p : Products a t) (first sum : ℕ) where
   root-is true e f = cc (mul-assoc 256 (digit2 7 a) (digit2 7 a), mul-assoc 4 (digit2 7 a) (digit3 7 a))
   root-is false e f = cc (mul-assoc 256 (digit2 7 a) (digit2 7 a), mul-assoc 4 (digit2 7 a) (digit3 7 a))
 
-  pub inverse-root-is : (s : Bool) → first ≡ less s 549755813888 (1024 * a) → sum ≡ less s (first + 768 * t .square + 12 * t .cross) (5 * t .cube)
-      → sum / 2048 ≡ seriesOf 7 inverseRoot s a
+-- two terms of one sign are taken together
+less-less : (s : Bool) (x y u v z : ℕ) → u ≤ x → less s (x + y + z) (u + v) ≡ less s (less s x u + y + z) v
+less-less true x y u v z h = omega arith
+less-less false x y u v z h = omega arith
+
+module _ (a : ℕ) (t : Terms) (p : Products a t) (sum : ℕ) where
+  pub inverse-root-is : (s : Bool) → a < 2097152
+      → sum ≡ less s (549755813888 + 768 * t .square + 12 * t .cross) (1024 * a + 5 * t .cube) → sum / 2048 ≡ seriesOf 7 inverseRoot s a
   unfolding sumOf
-  inverse-root-is true e f = cc (mul-assoc 768 (digit2 7 a) (digit2 7 a), mul-assoc 12 (digit2 7 a) (digit3 7 a), mul-assoc 5 (carryOf 7 (digit2 7 a)) (digit2 7 a))
-  inverse-root-is false e f = cc (mul-assoc 768 (digit2 7 a) (digit2 7 a), mul-assoc 12 (digit2 7 a) (digit3 7 a), mul-assoc 5 (carryOf 7 (digit2 7 a)) (digit2 7 a))
+  inverse-root-is s h f =
+      let g = less-less s 549755813888 (768 * t .square) (1024 * a) (5 * t .cube) (12 * t .cross) (omega arith) in
+      cc (mul-assoc 768 (digit2 7 a) (digit2 7 a), mul-assoc 12 (digit2 7 a) (digit3 7 a), mul-assoc 5 (carryOf 7 (digit2 7 a)) (digit2 7 a))
 
 -- M times b of the reduced significand is the raw answer
 module _ (y r b g : ℕ) (d : Reduction) (e : r ≡ factorOf 7 (y / 65536)) (h : Reduced (y * r) d) where

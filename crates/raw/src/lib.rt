@@ -104,8 +104,8 @@ fn inverse_root_series(positive: bool, a: u64) -> u64
     ensures { λ r. ⌜ (r ≡ seriesOf 7 Op·inverseRoot positive a) × (r < 2 ^ 29) ⌝ }
 {
     let t = products(a);
-    let first = less(positive, 549755813888, 1024 * a);
-    less(positive, first + 768 * t.square + 12 * t.cross, 5 * t.cube) / 2048
+    let even = 549755813888 + 768 * t.square + 12 * t.cross;
+    less(positive, even, 1024 * a + 5 * t.cube) / 2048
 }
 
 // Step 5: M × b over 2^28, floored.

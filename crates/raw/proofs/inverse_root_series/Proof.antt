@@ -8,11 +8,20 @@ use Rattle.raw.proofs.inverse_root_series.Tie as tie
 products-requires : tie.Need-products-requires
 products-requires c κs = search needs
 
+mul-even : tie.Need-mul-even
+mul-even c = search needs
+
+add-even : tie.Need-add-even
+add-even c = search needs
+
+mul-even-2 : tie.Need-mul-even-2
+mul-even-2 c = search needs
+
+add-even-2 : tie.Need-add-even-2
+add-even-2 c = search needs
+
 mul-less : tie.Need-mul-less
 mul-less c = search needs
-
-less-requires : tie.Need-less-requires
-less-requires c κs = search needs
 
 mul-less-2 : tie.Need-mul-less-2
 mul-less-2 c = search needs
@@ -20,17 +29,8 @@ mul-less-2 c = search needs
 add-less : tie.Need-add-less
 add-less c = search needs
 
-mul-less-3 : tie.Need-mul-less-3
-mul-less-3 c = search needs
-
-add-less-2 : tie.Need-add-less-2
-add-less-2 c = search needs
-
-mul-less-4 : tie.Need-mul-less-4
-mul-less-4 c = search needs
-
-less-requires-2 : tie.Need-less-requires-2
-less-requires-2 c κs = search needs
+less-requires : tie.Need-less-requires
+less-requires c κs = search needs
 
 returns : tie.Need-returns
 returns c = (search inverse-root-is, omega arith)
@@ -40,12 +40,12 @@ inverse-root-series-spec =
     tie.close
     (tie.spec
     products-requires
+    mul-even
+    add-even
+    mul-even-2
+    add-even-2
     mul-less
-    less-requires
     mul-less-2
     add-less
-    mul-less-3
-    add-less-2
-    mul-less-4
-    less-requires-2
+    less-requires
     returns)
