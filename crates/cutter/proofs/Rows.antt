@@ -62,7 +62,7 @@ record-is mode m t n row e h =
     let some : 0 < k = omega arith in
     let c : (row * k + n) % k ≡ n = ap (λ (x : ℕ). x % k) i ∙ add-mul-mod-self-right n row k ∙ mod-eq-of-lt h in
     let q : (row * k + n) / k ≡ row =
-      ap (λ (x : ℕ). x / k) i ∙ add-mul-div-right n row some ∙ ap (λ (x : ℕ). x + row) (div-eq-of-lt h) ∙ zero-add row in
+    ap (λ (x : ℕ). x / k) i ∙ add-mul-div-right n row some ∙ ap (λ (x : ℕ). x + row) (div-eq-of-lt h) ∙ zero-add row in
     cc
 
 -- the bytes of a row are within those of all rows
