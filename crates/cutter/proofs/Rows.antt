@@ -4,11 +4,10 @@ use mathlib.Core.List.{List}
 use Prim.Native.Nat.{ℕ, _+_, _-_, _*_, _/_, _%_, _≤_, _<_}
 use native.Mathlib.Nat.{zero-add, mul-comm, mul-le-mul, mod-eq-of-lt, div-eq-of-lt, add-mul-div-right, add-mul-mod-self-right}
 use native.Mathlib.Omega.{arith}
-use borrow.Author.Tests.{ne-eqb}
 use lib.ListN.{length, length-append}
 use mir.Val.{Fits}
 use mir.Syntax.{w64}
-use Rattle.kinds.specs.Rounding.{Mode, towardZero, modeOf}
+use Rattle.kinds.specs.Rounding.{Mode}
 use Rattle.words.specs.Splice.{splice}
 use Rattle.words.specs.Joined.{joined}
 use Rattle.words.proofs.Splicing.{length-word}
@@ -114,13 +113,3 @@ module _ (mode : Mode) (m : List ℕ) (k rows : ℕ) (l₀ : List ℕ) where
 
 pub length-records : (mode : Mode) (m : List ℕ) (n : ℕ) → length (joined (recordAt mode m) n) ≡ 12 * n
 length-records mode m n = length-joined (recordAt mode m) 12 (length-record mode m) n ∙ omega arith
-
--- ---- one loop for each rounding
-
-module _ (r : ℕ) (m : List ℕ) (n : ℕ) (l l₁ : List ℕ) where
-  pub put-as : (k : ℕ) → r ≡ k → l₁ ≡ splice 0 (joined (recordAt (modeOf k) m) n) l → l₁ ≡ splice 0 (joined (recordAt (modeOf r) m) n) l
-  put-as k e f = cc
-
-  pub put-last : (r ≡ 0 → ⊥) → (r ≡ 1 → ⊥) → (r ≡ 2 → ⊥) → l₁ ≡ splice 0 (joined (recordAt towardZero m) n) l
-      → l₁ ≡ splice 0 (joined (recordAt (modeOf r) m) n) l
-  put-last a b c e = simp (ne-eqb r 0 a, ne-eqb r 1 b, ne-eqb r 2 c) e

@@ -48,27 +48,10 @@ fn put_list(rounding: Rounding, map: &[u8], out: &mut [u8]) -> usize
     ensures { λ r. ⌜ (r ≡ listLength (now (map .entry))) × (now (out .exit) ≡ splice 0 (listBytes (modeOf (rounding .0)) (now (map .entry))) (now (out .entry))) ⌝ }
 {
     let trailer = read_trailer(map);
-    put_rounded(rounding, map, out, trailer);
+    put_points(rounding, map, out, trailer);
     let end = 12 * ((trailer.width - 2) * (trailer.depth - 2));
     put_trailer(out, end, trailer);
     end + 16
-}
-
-// The records of all inner points: one call for each rounding, so that the compiler makes a loop for each.
-fn put_rounded(rounding: Rounding, map: &[u8], out: &mut [u8], trailer: Trailer)
-    requires { ⌜ Ready (now map) trailer ⌝ }
-    requires { ⌜ 12 * ((trailer .width - 2) * (trailer .depth - 2)) ≤ length (now out) ⌝ }
-    ensures { λ _. ⌜ now (out .exit) ≡ splice 0 (joined (recordAt (modeOf (rounding .0)) (now (map .entry))) (countOf (trailer .width) (trailer .depth))) (now (out .entry)) ⌝ }
-{
-    if rounding.0 == Rounding::NEAREST.0 {
-        put_points(Rounding::NEAREST, map, out, trailer);
-    } else if rounding.0 == Rounding::UP.0 {
-        put_points(Rounding::UP, map, out, trailer);
-    } else if rounding.0 == Rounding::DOWN.0 {
-        put_points(Rounding::DOWN, map, out, trailer);
-    } else {
-        put_points(Rounding::TOWARD_ZERO, map, out, trailer);
-    }
 }
 
 // The records of all inner points, row by row, from the front on.

@@ -1,13 +1,13 @@
 // An offset's magnitude, a component of the normal times the radius over the normal's length, as a whole number: an inverse root that
-// is a little too small gives a start, a remainder decides.
+// is a little too small gives a start, one test of squares decides.
 use kinds::Rounding;
 ghost use mathlib.Core.Path.{_≡_};
-ghost use mathlib.Core.Bool.{not};
-ghost use Prim.Native.Nat.{_+_, _*_, _/_, _%_, _^_, _≤_, _<_};
-ghost use lib.Dec.{eqb};
-ghost use Rattle.kinds.specs.Rounding.{modeOf, placeOf, roundedBy};
+ghost use mathlib.Core.Bool.{cond};
+ghost use Prim.Native.Nat.{_*_, _^_, _≤_, _<_};
+ghost use Rattle.kinds.specs.Rounding.{modeOf};
 ghost use Rattle.offset.specs.Offset.{roundedOver};
-ghost use Rattle.offset.specs.Inverse.{InverseOf, DoubledOver, Ranges, Sizes};
+ghost use Rattle.offset.specs.Inverse.{InverseOf, Ranges, Sizes};
+ghost use Rattle.offset.specs.Settled.{restOf, settledBy};
 
 // 1 over √q from below, worked out once for a point: it is at least low over 2^(shift + 1), and at most (low + 32)
 // over that power.
@@ -44,48 +44,44 @@ pub fn rounded_over(
     requires { ⌜ Ranges component radius q × InverseOf q (inverse .low) (inverse .shift) ⌝ }
     ensures { λ r. ⌜ (r ≡ roundedOver (modeOf (rounding .0)) negative (component * radius) q) × (r ≤ radius) ⌝ }
 {
-    let doubled = doubled_over(component * radius, q, inverse);
-    rounded(rounding, negative, doubled.floor, doubled.left)
-}
-
-// 2n over √q, floored, and what is left of 4·n².
-struct Doubled {
-    floor: u64,
-    left: u64,
-}
-
-// The start is the floor or one below it: one step up, where the remainder allows it, is enough.
-fn doubled_over(n: u64, q: u64, inverse: Inverse) -> Doubled
-    requires { ⌜ Sizes n q × InverseOf q (inverse .low) (inverse .shift) ⌝ }
-    ensures { λ r. ⌜ DoubledOver n q (r .floor) (r .left) ⌝ }
-{
+    let n = component * radius;
     let start = (n * inverse.low) >> inverse.shift;
-    let left = remainder(n, q, start);
-    let next = 2 * (start * q) + q;
-    if next <= left {
-        Doubled {
-            floor: start + 1,
-            left: left - next,
-        }
+    settled_by(rounding, negative, start, n, q)
+}
+
+// The magnitude from a start, each rounding by its own rest: what it leaves of the way between two neighbours, in halves.
+fn settled_by(rounding: Rounding, negative: bool, start: u64, n: u64, q: u64) -> u64
+    requires { ⌜ Sizes n q × (start * start * q ≤ 4 * (n * n)) ⌝ }
+    ensures { λ r. ⌜ r ≡ settledBy (restOf (modeOf (rounding .0)) negative) start n q ⌝ }
+{
+    if rounding.0 == Rounding::NEAREST.0 {
+        settled(1, start, n, q)
+    } else if rounding.0 == Rounding::UP.0 {
+        settled(rest_if(negative), start, n, q)
+    } else if rounding.0 == Rounding::DOWN.0 {
+        settled(rest_if(!negative), start, n, q)
     } else {
-        Doubled { floor: start, left }
+        settled(2, start, n, q)
     }
 }
 
-// 4·n² less t²·q. The products stay below 2^63.
-fn remainder(n: u64, q: u64, t: u64) -> u64
-    requires { ⌜ Sizes n q × (t * t * q ≤ 4 * (n * n)) ⌝ }
-    ensures { λ r. ⌜ t * t * q + r ≡ 4 * (n * n) ⌝ }
+// 2 toward zero, 0 away from it.
+fn rest_if(inward: bool) -> u64
+    ensures { λ r. ⌜ (r ≡ cond inward 2 0) × (r ≤ 2) ⌝ }
 {
-    4 * (n * n) - t * q * t
+    if inward { 2 } else { 0 }
 }
 
-// The last bit of the doubled floor is the guard bit, and whether anything is left the sticky bit.
-fn rounded(rounding: Rounding, negative: bool, floor: u64, left: u64) -> u64
-    ensures { λ r. ⌜ r ≡ roundedBy (modeOf (rounding .0)) negative (floor / 2) (placeOf (eqb (floor % 2) 1) (not (eqb left 0))) ⌝ }
+// From a start that is 2n over √q, floored, or one below it: t is the magnitude or one below it, and one test decides. A magnitude that
+// reaches the limit goes on toward zero, and to the nearest where that is even.
+fn settled(rest: u64, start: u64, n: u64, q: u64) -> u64
+    requires { ⌜ rest ≤ 2 ⌝ }
+    requires { ⌜ Sizes n q × (start * start * q ≤ 4 * (n * n)) ⌝ }
+    ensures { λ r. ⌜ r ≡ settledBy rest start n q ⌝ }
 {
-    let t = floor / 2;
-    if kinds::goes_away(rounding, negative, t % 2 == 1, floor % 2 == 1, left != 0) {
+    let t = (start + (2 - rest) / 2) / 2;
+    let m = 2 * t + rest;
+    if m * m * q < 4 * (n * n) + (rest + t % 2) / 2 {
         t + 1
     } else {
         t

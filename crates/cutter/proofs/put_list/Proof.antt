@@ -8,8 +8,8 @@ use Rattle.cutter.proofs.put_list.Tie as tie
 read-trailer-requires : tie.Need-read-trailer-requires
 read-trailer-requires c κs = search sixteen-of
 
-put-rounded-requires : tie.Need-put-rounded-requires
-put-rounded-requires c κs = (search ready-of, search records-room)
+put-points-requires : tie.Need-put-points-requires
+put-points-requires c κs = (search ready-of, search records-room)
 
 sub-end : tie.Need-sub-end
 sub-end c = search width-of
@@ -40,7 +40,7 @@ put-list-spec =
     tie.close
     (tie.spec
     read-trailer-requires
-    put-rounded-requires
+    put-points-requires
     sub-end
     sub-end-2
     mul-end

@@ -1,21 +1,30 @@
--- `offset::rounded_over` meets its contract: the doubled floor and its remainder say the floor and the place. Assumes nothing.
+-- `offset::rounded_over` meets its contract: the start is near enough for one test. Assumes nothing.
 use borrow.Author.Needs.{needs}
-use Rattle.offset.proofs.Places.{offset-fits, offset-sizes, rounded-is, offset-most}
+use Rattle.offset.proofs.Start.{start-fits, start-below}
+use Rattle.offset.proofs.Places.{offset-fits, offset-sizes}
+use Rattle.offset.proofs.Settling.{settled-is, settled-most}
 use Rattle.offset.proofs.rounded_over.Statement.{statement}
 use Rattle.offset.proofs.rounded_over.Tie as tie
 
-mul-doubled-over : tie.Need-mul-doubled-over
-mul-doubled-over c = search offset-fits
+mul-n : tie.Need-mul-n
+mul-n c = search offset-fits
 
-doubled-over-requires : tie.Need-doubled-over-requires
-doubled-over-requires c κs = (search offset-sizes, search needs)
+mul-start : tie.Need-mul-start
+mul-start c = search (start-fits, offset-sizes)
 
-rounded-requires : tie.Need-rounded-requires
-rounded-requires c κs = search needs
+cast-start : tie.Need-cast-start
+cast-start c = search needs
+
+shr-start : tie.Need-shr-start
+shr-start c = search needs
+
+settled-by-requires : tie.Need-settled-by-requires
+settled-by-requires c κs = (search offset-sizes, search (start-below, offset-sizes))
 
 returns : tie.Need-returns
-returns c = (search (rounded-is, offset-sizes), search offset-most)
+returns c = (search (settled-is, offset-sizes), search settled-most)
 
 pub rounded-over-spec : {M : Type 1} → statement M
 rounded-over-spec =
-    tie.close (tie.spec mul-doubled-over doubled-over-requires rounded-requires returns)
+    tie.close
+    (tie.spec mul-n mul-start cast-start shr-start settled-by-requires returns)

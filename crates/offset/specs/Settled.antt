@@ -1,0 +1,24 @@
+-- How the code settles n over √q, rounded, from a start near twice that. Assumes nothing.
+use Prim.Native.Nat.{ℕ, _+_, _-_, _*_, _/_, _%_}
+use mathlib.Core.Bool.{Bool, true, false, cond}
+use lib.Dec.{ltb}
+use Rattle.kinds.specs.Rounding.{Mode, nearest, up, down, towardZero}
+
+-- what a rounding leaves of the way between two neighbours, in halves: 0 away from zero, 1 to the nearest, 2 toward zero
+unfoldable pub restOf : Mode → Bool → ℕ
+restOf nearest negative = 1
+restOf up false = 0
+restOf up true = 2
+restOf down false = 2
+restOf down true = 0
+restOf towardZero negative = 2
+
+-- t or the next, by m²·q against 4·n²
+unfoldable pub stepped : ℕ → ℕ → ℕ → ℕ → ℕ → ℕ
+stepped t m tie n q = cond (ltb (m * m * q) (4 * (n * n) + tie)) (t + 1) t
+
+-- the same from the start; a magnitude that reaches the limit goes on toward zero, and to the nearest where that is even
+unfoldable pub settledBy : ℕ → ℕ → ℕ → ℕ → ℕ
+settledBy rest start n q =
+    let t = (start + (2 - rest) / 2) / 2 in
+    stepped t (2 * t + rest) ((rest + t % 2) / 2) n q
