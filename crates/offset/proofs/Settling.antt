@@ -228,13 +228,21 @@ module _ (mode : Mode) (negative : Bool) (low shift n q r : ℕ) (sizes : Sizes 
       (λ h.
       let left : ℕ = 4 * (n * n) - (s + 1) * (s + 1) * q in
       let d : DoubledOver n q (s + 1) left = record { whole = omega arith; last = omega arith } in
-      record { floor = s + 1; left = left; doubled = d;
-        is = e ∙ settled-at n q (s + 1) left s (sizes .least) d (omega arith) (omega arith) mode negative })
+      record {
+        floor = s + 1;
+        left = left;
+        doubled = d;
+        is = e ∙ settled-at n q (s + 1) left s (sizes .least) d (omega arith) (omega arith) mode negative;
+      })
       (λ h.
       let left : ℕ = 4 * (n * n) - s * s * q in
       let d : DoubledOver n q s left = record { whole = omega arith; last = omega arith } in
-      record { floor = s; left = left; doubled = d;
-        is = e ∙ settled-at n q s left s (sizes .least) d (omega arith) (omega arith) mode negative })
+      record {
+        floor = s;
+        left = left;
+        doubled = d;
+        is = e ∙ settled-at n q s left s (sizes .least) d (omega arith) (omega arith) mode negative;
+      })
 
   pub settled-is : r ≡ roundedOver mode negative n q
   settled-is = rounded-is n q (found .floor) (found .left) sizes (found .doubled) mode negative r (found .is)
@@ -308,8 +316,13 @@ module _ (rest start n q : ℕ) (most : rest ≤ 2) (sizes : Sizes n q) (below :
 
   pub product-fits : Fits w64 ((2 * ((start + (2 - rest) / 2) / 2) + rest) * (2 * ((start + (2 - rest) / 2) / 2) + rest) * q)
   product-fits =
-      omega (arith, mul-le-mul-right q (mul-le-mul m-most m-most), mul-le-mul start-small (sizes .most),
-      mul-le-mul (sizes .product-most) (sizes .product-most), sizes .most)
+      omega (
+        arith,
+        mul-le-mul-right q (mul-le-mul m-most m-most),
+        mul-le-mul start-small (sizes .most),
+        mul-le-mul (sizes .product-most) (sizes .product-most),
+        sizes .most,
+      )
 
   pub limit-fits : Fits w64 (4 * (n * n) + (rest + (start + (2 - rest) / 2) / 2 % 2) / 2)
   limit-fits = omega (arith, mul-le-mul (sizes .product-most) (sizes .product-most))
