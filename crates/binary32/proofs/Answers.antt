@@ -2,22 +2,24 @@
 use mathlib.Core.Path.{_≡_, refl, sym, ap, ap₂, _∙_}
 use mathlib.Core.Bool.{Bool, true, false, cond, not, _&&_, _||_, true≢false}
 use mathlib.Core.Logic.{by-cases}
-use Prim.Native.Nat.{ℕ, suc, _+_, _*_, _/_, _%_, _^_, _≤_, _<_}
+use Prim.Native.Nat.{ℕ, _/_, _%_, _^_, _<_}
 use native.Mathlib.Decide.{decLt}
 use native.Mathlib.Omega.{arith}
 use borrow.Author.Tests.{leb-false, eqb-false, lt-ltb, le-ltb, le-leb, lt-leb, eq-eqb, ne-eqb}
 use lib.Dec.{eqb, ltb, leb}
 use Rattle.kinds.specs.Operation.{Op, isReciprocal}
 use Rattle.kinds.specs.Rounding.{Mode}
-use Rattle.ieee.specs.Format.{binary32, infinity, leastNormal, magnitudeOf}
-use Rattle.ieee.specs.Answer.{Answer, signed, toNaN, toZero, toInfinity, toFinite, answerTo, answerOf}
+use Rattle.ieee.specs.Format.{binary32, infinity, magnitudeOf}
+use Rattle.ieee.specs.Answer.{Answer, signed, toFinite, answerTo, answerOf}
 use Rattle.ieee.proofs.Rounding.{rounded-is, flags-are}
-use Rattle.binary32.specs.Operand.{patternOf, fieldsOf, PartsOf, Ranges, Ordinary}
-use Rattle.binary32.specs.Guard.{roundedAnswer, takenFrom, roundedFrom, BelowResult}
-use Rattle.binary32.specs.Special.{isSpecialAt, isSpecial, specialAt, specialTo}
-use Rattle.binary32.specs.declared.operand.Parts.{Parts}
-use Rattle.binary32.specs.declared.guard.Neighbour.{Neighbour}
-use Rattle.binary32.specs.declared.Rounded.{Rounded}
+use Rattle.pattern.specs.Parts.{patternOf, PartsOf, Ranges}
+use Rattle.binary32.specs.Operand.{Ordinary}
+use Rattle.pattern.specs.Neighbour.{roundedAnswer, takenFrom, roundedFrom}
+use Rattle.binary32.specs.Below.{BelowResult}
+use Rattle.pattern.specs.Special.{isSpecialAt, isSpecial, specialAt, specialTo}
+use Rattle.pattern.specs.declared.parts.Parts.{Parts}
+use Rattle.pattern.specs.declared.neighbour.Neighbour.{Neighbour}
+use Rattle.pattern.specs.declared.Rounded.{Rounded}
 
 -- an operand that is not special is finite and not zero
 pub ordinary-is : (op : Op) (x : Parts) (b : Bool) → b ≡ isSpecial op x → b ≡ false → Ranges x → Ordinary (x .exponent) (x .fraction)

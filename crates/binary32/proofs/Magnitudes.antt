@@ -1,21 +1,14 @@
 -- A magnitude as a significand and a power of two: the shifts of a subnormal operand, and a normal one. Assumes nothing.
-use mathlib.Core.Path.{_≡_, refl, sym, ap, subst, _∙_}
-use Prim.Native.Nat.{ℕ, zero, suc, _+_, _*_, _-_, _/_, _%_, _^_, _≤_, _<_}
-use native.Mathlib.Nat.{pow-succ', pow-zero}
+use mathlib.Core.Path.{_≡_, refl, ap, _∙_}
+use Prim.Native.Nat.{ℕ, zero, suc, _+_, _*_, _-_, _^_, _≤_, _<_}
+use native.Mathlib.Nat.{pow-succ'}
 use native.Mathlib.Omega.{arith}
 use lib.Pow.{pow-add}
 use Rattle.ieee.specs.Format.{binary32, magnitudeOf}
 use Rattle.ieee.proofs.Neighbours.{magnitude-fields}
-use lib.Bits.{bitAnd, and-mask}
-use Rattle.binary32.specs.Operand.{patternOf, fieldsOf, PartsOf, Ordinary, Scaling}
-use Rattle.binary32.specs.declared.operand.Parts.{Parts}
+use Rattle.pattern.specs.Parts.{patternOf}
+use Rattle.binary32.specs.Operand.{Ordinary, Scaling}
 use Rattle.binary32.specs.declared.operand.Scaled.{Scaled}
-
--- a mask of ones is a remainder
-pub parts-are : (b : ℕ) → b < 2 ^ 32 → PartsOf b (record { sign = b / 2 ^ 31; exponent = bitAnd (b / 2 ^ 23) 255; fraction = bitAnd b 8388607 })
-parts-are b h =
-    rw (and-mask (b / 2 ^ 23) 8, and-mask b 23)
-    (record { is = refl; ranges = record { sign = omega arith; exponent = omega arith; fraction = omega arith } })
 
 -- the fraction x of a subnormal operand, shifted up to y while the exponent has come down from 23 to j
 pub record Shifted (x y j : ℕ) : Type 0 where

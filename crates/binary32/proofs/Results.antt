@@ -1,6 +1,6 @@
 -- From the raw unit to the pattern below the exact result. Assumes nothing.
 use mathlib.Core.Path.{_≡_, sym, subst}
-use Prim.Native.Nat.{ℕ, suc, _+_, _*_, _-_, _/_, _%_, _^_, _≤_, _<_}
+use Prim.Native.Nat.{ℕ, _+_, _*_, _-_, _/_, _%_, _^_, _≤_, _<_}
 use native.Mathlib.Nat.{mul-pos}
 use native.Mathlib.Omega.{arith}
 use mathlib.Core.Bool.{Bool, not}
@@ -13,15 +13,17 @@ use Rattle.kinds.specs.Operation.{Op, reciprocal, root, inverseRoot, opOf}
 use Rattle.significand.specs.Steps.{rawOf}
 use Rattle.significand.specs.Distance.{Near, distanceOf}
 use Rattle.significand.proofs.Distance.{distance}
-use Rattle.ieee.specs.Format.{binary32, magnitudeOf, infinity}
+use Rattle.ieee.specs.Format.{binary32, magnitudeOf}
 use Rattle.ieee.specs.Guarded.{Guarded, Below}
 use Rattle.ieee.proofs.Guarded.{guarded-below}
-use Rattle.binary32.specs.Operand.{patternOf, Scaling}
+use Rattle.pattern.specs.Parts.{patternOf}
+use Rattle.binary32.specs.Operand.{Scaling}
 use Rattle.binary32.specs.Floor.{targetOf, Reached}
-use Rattle.binary32.specs.Guard.{neighbourOf, BelowResult}
+use Rattle.pattern.specs.Neighbour.{neighbourOf}
+use Rattle.binary32.specs.Below.{BelowResult}
 use Rattle.binary32.specs.declared.operand.Scaled.{Scaled}
 use Rattle.binary32.specs.declared.floor.Partial.{Partial}
-use Rattle.binary32.specs.declared.guard.Neighbour.{Neighbour}
+use Rattle.pattern.specs.declared.neighbour.Neighbour.{Neighbour}
 use Rattle.binary32.proofs.Reaching.{quotient-small}
 use Rattle.binary32.proofs.Scales.{reciprocal-guarded, root-guarded, inverse-guarded}
 

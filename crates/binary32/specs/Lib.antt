@@ -1,4 +1,3 @@
 pub mod Operand
 pub mod Floor
-pub mod Guard
-pub mod Special
+pub mod Below

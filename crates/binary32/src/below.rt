@@ -1,12 +1,12 @@
 // The pattern below the exact result of each operation on a positive finite operand, through the raw unit.
 ghost use Rattle.kinds.specs.Operation.{opOf, reciprocal as Op·reciprocal, root as Op·root, inverseRoot as Op·inverseRoot};
 ghost use Rattle.binary32.specs.Operand.{Ordinary};
-ghost use Rattle.binary32.specs.Guard.{BelowResult};
+ghost use Rattle.binary32.specs.Below.{BelowResult};
 use crate::floor;
-use crate::guard::Neighbour;
-use crate::guard::lower;
 use crate::operand::scale;
 use kinds::Operation;
+use pattern::neighbour::Neighbour;
+use pattern::neighbour::lower;
 
 pub fn below(operation: Operation, exponent: u32, fraction: u32) -> Neighbour
     requires { ⌜ Ordinary exponent fraction ⌝ }

@@ -1,29 +1,22 @@
 // The binary32 unit: reciprocal, root and inverse root of a pattern, correctly rounded, with flags.
 mod below;
 mod floor;
-mod guard;
 mod operand;
-mod special;
 
 ghost use mathlib.Core.Path.{_≡_};
 ghost use Rattle.kinds.specs.Operation.{opOf, reciprocal as Op·reciprocal, root as Op·root, inverseRoot as Op·inverseRoot};
 ghost use Rattle.kinds.specs.Rounding.{modeOf};
 ghost use Rattle.ieee.specs.Format.{binary32};
 ghost use Rattle.ieee.specs.Answer.{answerOf};
-ghost use Rattle.binary32.specs.Guard.{roundedAnswer};
+ghost use Rattle.pattern.specs.Neighbour.{roundedAnswer};
 use below::below;
-use guard::round;
 use kinds::Operation;
 use kinds::Rounding;
-use operand::fields;
-use special::is_special;
-use special::special;
-
-// A pattern and the flags that its operation raises.
-pub struct Rounded {
-    pub bits: u32,
-    pub flags: u8,
-}
+pub use pattern::Rounded;
+use pattern::neighbour::round;
+use pattern::parts::fields;
+use pattern::special::is_special;
+use pattern::special::special;
 
 // An operation on a pattern. A number that is no operation's or no rounding's counts as the last: whoever calls asks the questions.
 pub fn answer(operation: Operation, rounding: Rounding, bits: u32) -> Rounded

@@ -1,23 +1,8 @@
-// A pattern taken apart: sign, exponent and fraction; and a finite operand as a significand and a power of two.
+// A finite operand as a significand and a power of two.
 ghost use Prim.Native.Nat.{_<_};
 ghost use Rattle.ieee.specs.Format.{binary32, magnitudeOf};
-ghost use Rattle.binary32.specs.Operand.{patternOf, PartsOf, Ordinary, Scaling};
-
-pub struct Parts {
-    pub sign: u32,
-    pub exponent: u32,
-    pub fraction: u32,
-}
-
-pub fn fields(bits: u32) -> Parts
-    ensures { λ r. ⌜ PartsOf bits r ⌝ }
-{
-    Parts {
-        sign: bits >> 31,
-        exponent: (bits >> 23) & 0xFF,
-        fraction: bits & 0x7F_FFFF,
-    }
-}
+ghost use Rattle.pattern.specs.Parts.{patternOf};
+ghost use Rattle.binary32.specs.Operand.{Ordinary, Scaling};
 
 // A magnitude, counted in units of 2^-149: times 2^23 it is significand × 2^exponent, and the significand has 24 bits.
 pub struct Scaled {

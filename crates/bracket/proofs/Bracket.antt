@@ -50,8 +50,8 @@ module _ (m : List ℕ) (a : Accepted m) where
   lists-equal : (listBytes down m ≡ listBytes up m) ↔ ExactMap m
   unfolding centreAt
   lists-equal = (
-    λ e. at-every m (λ (p : Point). ExactAt (stepOf m) (radiusOf m) p) (a .width-from) (λ n h. at-point n h .equal .0 (same-centres e n h)),
-    λ x. same-bytes (λ n h. at-point n h .equal .1 (x _ _ (inner-at (widthOf m) (depthOf m) (a .width-from) n h))),
+    λ e. at-every m (λ (p : Point). ExactAt (stepOf m) (radiusOf m) p) (a .sizes .wide) (λ n h. at-point n h .equal .0 (same-centres e n h)),
+    λ x. same-bytes (λ n h. at-point n h .equal .1 (x _ _ (inner-at (widthOf m) (depthOf m) (a .sizes .wide) n h))),
   )
 
   -- coordinates that differ are one apart

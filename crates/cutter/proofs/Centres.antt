@@ -1,5 +1,5 @@
 -- The offsets and the centre at a point, as the code works them out. Assumes nothing.
-use mathlib.Core.Path.{_≡_, ap, _∙_}
+use mathlib.Core.Path.{_≡_, refl, ap, _∙_}
 use mathlib.Core.Bool.{false}
 use mathlib.Core.List.{List}
 use Prim.Native.Nat.{ℕ, _+_, _*_, _≤_, _<_}
@@ -15,7 +15,7 @@ use Rattle.words.specs.Signed.{signed, wordOf, withSign}
 use Rattle.words.specs.Parts.{partsOf}
 use Rattle.words.specs.Splice.{splice}
 use Rattle.words.proofs.Splicing.{three-words}
-use Rattle.words.proofs.Differences.{abs-neg}
+use Rattle.words.proofs.Differences.{abs-neg, signed-small}
 use Rattle.words.specs.declared.Signed.{Signed}
 use Rattle.offset.specs.Offset.{squaredLength, roundedOver, offsetOf}
 use Rattle.offset.specs.Inverse.{Ranges}
@@ -39,32 +39,25 @@ module _ (n : Normal) (step radius : ℕ) (f : Measured n step) (g : Steps step 
   squared-most =
       omega (arith, f .squared, square-most (f .x-most), square-most (f .y-most), square-most (g .step-most))
 
-  pub ranges-x : Ranges (n .x .magnitude) radius (n .squared)
-  ranges-x = record {
-    component-most = f .x-most;
+  ranges-of : (component : ℕ) → component ≤ 100000 → component * component ≤ n .squared → Ranges component radius (n .squared)
+  ranges-of component h k = record {
+    component-most = h;
     radius-most = g .radius-most;
-    squared = omega (arith, f .squared);
+    squared = k;
     least = squared-least;
     most = squared-most;
   }
+
+  pub ranges-x : Ranges (n .x .magnitude) radius (n .squared)
+  ranges-x = ranges-of (n .x .magnitude) (f .x-most) (omega (arith, f .squared))
 
   pub ranges-y : Ranges (n .y .magnitude) radius (n .squared)
-  ranges-y = record {
-    component-most = f .y-most;
-    radius-most = g .radius-most;
-    squared = omega (arith, f .squared);
-    least = squared-least;
-    most = squared-most;
-  }
+  ranges-y = ranges-of (n .y .magnitude) (f .y-most) (omega (arith, f .squared))
 
   pub ranges-z : Ranges (2 * step) radius (n .squared)
-  ranges-z = record {
-    component-most = omega (arith, g .step-most);
-    radius-most = g .radius-most;
-    squared = omega (arith, f .squared);
-    least = squared-least;
-    most = squared-most;
-  }
+  ranges-z = ranges-of (2 * step) (omega (arith, g .step-most)) (omega (arith, f .squared))
+
+pub ruleset ranges = (ranges-x, ranges-y, ranges-z)
 
 -- ---- the offsets
 
@@ -93,60 +86,49 @@ module _ (w d c q step radius : ℕ) (s : Sizes w d) (h : Inner w d c q) (g : St
   pub row-fits : Fits w64 (q * step)
   row-fits = omega (arith, row-most)
 
-  pub column-small : c * step < 2147483648
+  pub column-small : c * step < 4294967296
   column-small = omega (arith, column-most)
 
-  pub row-small : q * step < 2147483648
+  pub row-small : q * step < 4294967296
   row-small = omega (arith, row-most)
+
+pub ruleset coordinate-fits = (column-fits, row-fits)
+
+pub ruleset coordinate-small = (column-small, row-small)
 
 -- ---- the centre
 
 -- an offset by sign and magnitude is the component's
-offset-is : (mode : Mode) (z : ℤ) (s : Signed) (radius l : ℕ) → s ≡ partsOf z
-    → withSign (s .negative) (roundedOver mode (s .negative) (s .magnitude * radius) l) ≡ offsetOf mode z radius l
+offset-is : (mode : Mode) (z : ℤ) (s t : Signed) (radius l : ℕ) → s ≡ partsOf z → t ≡ offsetParts mode s radius l
+    → withSign (t .negative) (t .magnitude) ≡ offsetOf mode z radius l
 unfolding offsetOf partsOf
-offset-is mode z s radius l e =
-    ap (λ (s : Signed). withSign (s .negative) (roundedOver mode (s .negative) (s .magnitude * radius) l)) e
+offset-is mode z s t radius l e f =
+    ap (λ (t : Signed). withSign (t .negative) (t .magnitude)) f
+    ∙ ap (λ (s : Signed). withSign (s .negative) (roundedOver mode (s .negative) (s .magnitude * radius) l)) e
 
-module _ (mode : Mode) (m : List ℕ) (w c q step radius : ℕ) (n : Normal) where
+module _ (mode : Mode) (m : List ℕ) (w d c q step radius : ℕ) (n : Normal) where
   squared-is : NormalOf (acrossAt m w c q) (alongAt m w c q) n → Measured n step
       → n .squared ≡ squaredLength (acrossAt m w c q) (alongAt m w c q) step
   unfolding partsOf
   squared-is f g = cc (abs-neg (acrossAt m w c q), abs-neg (alongAt m w c q), f .x, f .y, g .squared)
 
-  of-x : (o : Offsets) → o ≡ offsetsOf mode n step radius
-      → withSign (o .x .negative) (o .x .magnitude)
-      ≡ withSign (n .x .negative) (roundedOver mode (n .x .negative) (n .x .magnitude * radius) (n .squared))
-  unfolding offsetsOf
-  of-x o e = ap (λ (o : Offsets). withSign (o .x .negative) (o .x .magnitude)) e
-
-  of-y : (o : Offsets) → o ≡ offsetsOf mode n step radius
-      → withSign (o .y .negative) (o .y .magnitude)
-      ≡ withSign (n .y .negative) (roundedOver mode (n .y .negative) (n .y .magnitude * radius) (n .squared))
-  unfolding offsetsOf
-  of-y o e = ap (λ (o : Offsets). withSign (o .y .negative) (o .y .magnitude)) e
-
-  of-z : (o : Offsets) → o ≡ offsetsOf mode n step radius
-      → withSign (o .z .negative) (o .z .magnitude) ≡ offsetOf mode (pos (2 * step)) radius (n .squared)
-  unfolding offsetsOf offsetOf
-  of-z o e = ap (λ (o : Offsets). withSign (o .z .negative) (o .z .magnitude)) e
-
-  pub centre-is : (o : Offsets) (u x y z : ℕ)
+  pub centre-is : (o : Offsets) (u x y z : ℕ) → Sizes w d → Inner w d c q → Steps step radius
       → NormalOf (acrossAt m w c q) (alongAt m w c q) n → Measured n step → o ≡ offsetsOf mode n step radius
       → u ≡ wordAt m (4 * (q * w + c))
-      → x ≡ wordOf (pos (c * step) +ℤ withSign (o .x .negative) (o .x .magnitude))
-      → y ≡ wordOf (pos (q * step) +ℤ withSign (o .y .negative) (o .y .magnitude))
+      → x ≡ wordOf (signed (c * step) +ℤ withSign (o .x .negative) (o .x .magnitude))
+      → y ≡ wordOf (signed (q * step) +ℤ withSign (o .y .negative) (o .y .magnitude))
       → z ≡ wordOf (signed u +ℤ withSign (o .z .negative) (o .z .magnitude))
       → wordsBytes (record { x = x; y = y; z = z }) ≡ recordBytes (centreOf mode step radius (pointAt m w c q))
   unfolding wordsBytes recordBytes centreOf pointAt
-  centre-is o u x y z f g eo eu ex ey ez =
+  centre-is o u x y z s h k f g eo eu ex ey ez =
+      let up : Signed = record { negative = false; magnitude = 2 * step } in
       let l : n .squared ≡ squaredLength (acrossAt m w c q) (alongAt m w c q) step = squared-is f g in
+      let column : signed (c * step) ≡ pos (c * step) = signed-small (c * step) (omega (arith, column-most w d c q step radius s h k)) in
+      let row : signed (q * step) ≡ pos (q * step) = signed-small (q * step) (omega (arith, row-most w d c q step radius s h k)) in
       let height : signed u ≡ heightAt m w c q = unfold heightAt in ap signed eu in
-      let ox : withSign (o .x .negative) (o .x .magnitude) ≡ offsetOf mode (negℤ (acrossAt m w c q)) radius (n .squared) =
-      of-x o eo ∙ offset-is mode (negℤ (acrossAt m w c q)) (n .x) radius (n .squared) (f .x) in
-      let oy : withSign (o .y .negative) (o .y .magnitude) ≡ offsetOf mode (negℤ (alongAt m w c q)) radius (n .squared) =
-      of-y o eo ∙ offset-is mode (negℤ (alongAt m w c q)) (n .y) radius (n .squared) (f .y) in
-      let oz : withSign (o .z .negative) (o .z .magnitude) ≡ offsetOf mode (pos (2 * step)) radius (n .squared) = of-z o eo in
+      let ox = offset-is mode (negℤ (acrossAt m w c q)) (n .x) (o .x) radius (n .squared) (f .x) (unfold offsetsOf in ap (λ (o : Offsets). o .x) eo) in
+      let oy = offset-is mode (negℤ (alongAt m w c q)) (n .y) (o .y) radius (n .squared) (f .y) (unfold offsetsOf in ap (λ (o : Offsets). o .y) eo) in
+      let oz = offset-is mode (pos (2 * step)) up (o .z) radius (n .squared) (unfold partsOf in refl) (unfold offsetsOf in ap (λ (o : Offsets). o .z) eo) in
       cc
 
 -- ---- the record

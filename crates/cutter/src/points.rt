@@ -19,7 +19,6 @@ use offset::inverse_of;
 use offset::rounded_over;
 use words::Signed;
 use words::lifted;
-use words::moved;
 use words::put_word;
 
 // The offsets along x, y and z, in micrometres.
@@ -94,8 +93,8 @@ fn centre(rounding: Rounding, map: &[u8], trailer: Trailer, column: usize, row: 
         trailer.width * trailer.depth,
     );
     Words {
-        x: moved((column as u64) * step, o.x),
-        y: moved((row as u64) * step, o.y),
+        x: lifted((column as u64) * step, o.x),
+        y: lifted((row as u64) * step, o.y),
         z: lifted(height, o.z),
     }
 }

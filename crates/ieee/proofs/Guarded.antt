@@ -1,21 +1,21 @@
 -- A floor with a guard bit gives the pattern below the exact result, and the place of the exact result above it. Assumes nothing.
 use mathlib.Core.Path.{_≡_, refl, sym, ap, subst, _∙_}
-use mathlib.Core.Bool.{Bool, true, false, true≢false, cond, not, _&&_, _||_, or-true, or-false}
+use mathlib.Core.Bool.{Bool, true, false, true≢false, not, _||_, or-true, or-false}
 use mathlib.Core.Logic.{_⊎_, inl, inr, by-cases}
-use Prim.Native.Nat.{ℕ, zero, suc, _+_, _*_, _-_, _/_, _%_, _^_, _≤_, _<_, min}
-use native.Mathlib.Nat.{pow-suc, pow-zero, pow-succ', one-le-pow, le-trans, le-of-lt, lt-of-lt-of-le, lt-of-le-of-lt, mul-le-mul-right, mul-lt-mul-of-pos-right, le-of-mul-le-mul-left, lt-of-mul-lt-mul-left, eq-of-mul-eq-mul-left, mul-le-mul-left, lt-div-mul-add, div-mul-le-self, div-one}
+use Prim.Native.Nat.{ℕ, suc, _+_, _*_, _-_, _/_, _%_, _^_, _≤_, _<_, min}
+use native.Mathlib.Nat.{pow-suc, pow-zero, one-le-pow, le-trans, le-of-lt, lt-of-lt-of-le, mul-le-mul-right, mul-lt-mul-of-pos-right, le-of-mul-le-mul-left, lt-of-mul-lt-mul-left, eq-of-mul-eq-mul-left, mul-le-mul-left, lt-div-mul-add, div-mul-le-self, div-one}
 use native.Mathlib.Decide.{decLt}
 use native.Mathlib.Omega.{arith}
 use borrow.Author.Tests.{le-leb, lt-leb, lt-ltb, le-ltb, eq-eqb, ne-eqb, eqb-true, eqb-false, not-true, not-false}
-use lib.Dec.{leb, ltb, eqb}
+use lib.Dec.{eqb}
 use lib.Pow.{pow-pos, shr-le}
 use Rattle.kinds.specs.Operation.{Op, reciprocal, root, inverseRoot}
-use Rattle.kinds.specs.Rounding.{Place, exact, below, half, above, placeBy, placeOf}
+use Rattle.kinds.specs.Rounding.{exact, below, half, above, placeBy, placeOf}
 use Rattle.numbers.proofs.Powers.{power-of-four}
 use Rattle.ieee.specs.Format.{Format, unitOf, infinity, magnitudeOf}
 use Rattle.ieee.specs.Rounded.{side, limit, twice, fits, lowerOf, placeAt}
 use Rattle.ieee.specs.Guarded.{Guarded, kept, floorPattern, guardBit, stickyBit, isBeyond, Below}
-use Rattle.ieee.proofs.Neighbours.{magnitude-at, rising, rising≤, side-rising, side-rising<, Lower, lower-is}
+use Rattle.ieee.proofs.Neighbours.{magnitude-at, rising, rising≤, side-rising, side-rising<, lower-is}
 
 -- the place from the order of its four numbers
 module _ (low limit middle doubled : ℕ) where

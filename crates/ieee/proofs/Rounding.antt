@@ -2,17 +2,17 @@
 use mathlib.Core.Path.{_≡_, refl, sym, ap, subst, _∙_}
 use mathlib.Core.Bool.{Bool, true, false, cond, not, _&&_, _||_}
 use mathlib.Core.Logic.{by-cases}
-use Prim.Native.Nat.{ℕ, suc, _+_, _*_, _%_, _≤_, _<_}
+use Prim.Native.Nat.{ℕ, suc, _+_, _*_, _%_, _<_}
 use native.Mathlib.Nat.{le-trans, lt-of-lt-of-le}
 use native.Mathlib.Decide.{decLt}
 use native.Mathlib.Omega.{arith}
 use borrow.Author.Tests.{le-leb, lt-leb, lt-ltb, le-ltb}
-use lib.Dec.{leb, ltb, eqb}
+use lib.Dec.{ltb, eqb}
 use Rattle.kinds.specs.Operation.{Op}
 use Rattle.kinds.specs.Rounding.{Mode, Place, exact, below, half, above, away, placeBy, placeOf, roundedBy}
 use Rattle.kinds.specs.Flag.{overflow, underflow, inexact}
 use Rattle.ieee.specs.Format.{Format, unitOf, infinity, leastNormal, magnitudeOf}
-use Rattle.ieee.specs.Rounded.{side, limit, twice, fits, lowerOf, placeAt, roundedOf, isInexact, isOverflow, isUnderflow, flagsOf}
+use Rattle.ieee.specs.Rounded.{side, limit, twice, fits, placeAt, roundedOf, isInexact, isOverflow, isUnderflow, flagsOf}
 use Rattle.ieee.specs.Guarded.{Below}
 use Rattle.ieee.proofs.Neighbours.{rising≤, side-rising, Lower, lower-found}
 

@@ -10,19 +10,19 @@ abbrev pub TimesPower : ℕ → ℤ → ℕ → ℕ → Type 0
 TimesPower b (pos n) x y = x ≡ y * b ^ n
 TimesPower b (negsuc n) x y = x * b ^ suc n ≡ y
 
--- The value of a magnitude x, which counts units of 2^-u, is x × 2^-u. It is a power of two with an exponent from −n to n,
+-- A magnitude x counts units of 2^-u, so its value is x × 2^-u. The value is a power of two, 2^e with e from −n to n
 pub record PowerOfTwo (u n x : ℕ) : Type 0 where
   pub exponent : ℤ
   pub within : natAbs exponent ≤ n
   pub is : TimesPower 2 exponent x (2 ^ u)
 
--- a whole square times a power of four,
+-- the value is a whole square times a power of four, base² × 4^e
 pub record SquareTimesPowerOfFour (u x : ℕ) : Type 0 where
   pub base : ℕ
   pub exponent : ℤ
   pub is : TimesPower 4 exponent x (base * base * 2 ^ u)
 
--- or a power of four
+-- the value is a power of four, 4^e
 pub record PowerOfFour (u x : ℕ) : Type 0 where
   pub exponent : ℤ
   pub is : TimesPower 4 exponent x (2 ^ u)

@@ -1,6 +1,6 @@
 -- What an operation answers to a pattern: bits and flags, special operands first, in document 01's order. Assumes nothing.
 use Prim.Native.Nat.{ℕ, _+_, _*_, _-_, _/_, _%_, _^_}
-use mathlib.Core.Bool.{Bool, cond, not, _&&_}
+use mathlib.Core.Bool.{cond, not, _&&_}
 use lib.Dec.{ltb, eqb}
 use Rattle.kinds.specs.Operation.{Op, reciprocal, root, inverseRoot, isReciprocal}
 use Rattle.kinds.specs.Rounding.{Mode}

@@ -1,5 +1,5 @@
 -- The exact result of an operation among the numbers of a format, and its rounding. Assumes nothing.
-use Prim.Native.Nat.{ℕ, suc, _+_, _*_, _-_, _^_}
+use Prim.Native.Nat.{ℕ, suc, _+_, _*_, _^_}
 use mathlib.Core.Bool.{Bool, cond, not, _&&_, _||_}
 use lib.Dec.{leb, ltb, eqb}
 use Rattle.kinds.specs.Operation.{Op, reciprocal, root, inverseRoot}
@@ -45,7 +45,7 @@ placeAt f op x t =
 unfoldable pub roundedOf : Format → Op → Mode → Bool → ℕ → ℕ
 roundedOf f op mode negative x = roundedBy mode negative (lowerOf f op x) (placeAt f op x (lowerOf f op x))
 
--- the rounded result is not the exact one
+-- the exact result is no finite number of the format
 unfoldable pub isInexact : Format → Op → ℕ → Bool
 isInexact f op x = not (eqb (side op x (magnitudeOf f (lowerOf f op x))) (limit (unitOf f) op x))
 

@@ -1,10 +1,10 @@
 // Runs the list call on frames from standard input and writes what each call answers, with a digest of the buffer after it.
 // A frame is the map's length and the buffer's, 4 bytes each, little-endian, and the map.
 ghost use Prim.Native.Nat.{_<_};
-use cutter::list;
-use kinds::Rounding;
 use libc::STDIN_FILENO;
 use libc::STDOUT_FILENO;
+use plate::Rounding;
+use plate::list;
 use words::word_at;
 
 fn main() {
@@ -53,9 +53,9 @@ fn run_all(map: &[u8], out: &mut [u8]) {
 
 fn run(rounding: u8, map: &[u8], out: &mut [u8]) {
     fill(out);
-    let listed = list(Rounding(rounding), map, out);
-    number(listed.refusal as u64, b" ");
-    number(listed.length as u64, b" ");
+    let reply = list(Rounding(rounding), map, out);
+    number(reply.refusal as u64, b" ");
+    number(reply.length as u64, b" ");
     number(digest(out), b"\n");
 }
 

@@ -11,8 +11,8 @@ use Rattle.ieee.specs.Format.{binary32}
 use Rattle.ieee.specs.Answer.{Answer, answerOf}
 use Rattle.ieee.specs.Call.{binary32Refusal, binary32Bits, binary32Status}
 use Rattle.ieee.proofs.Flags.{flags-small}
-use Rattle.binary32.specs.declared.Rounded.{Rounded}
-use Rattle.binary32.specs.Guard.{roundedAnswer}
+use Rattle.pattern.specs.declared.Rounded.{Rounded}
+use Rattle.pattern.specs.Neighbour.{roundedAnswer}
 use Rattle.plate.specs.declared.Status.{Status}
 use Rattle.plate.specs.declared.Binary32Reply.{Binary32Reply}
 use Rattle.plate.specs.Status.{raised}

@@ -4,9 +4,9 @@ ghost use lib.ListN.{length};
 ghost use Rattle.cutter.specs.Asked.{Sizes};
 use cutter::trailer::Trailer;
 use cutter::trailer::read_trailer;
-use kinds::Rounding;
 use libc::STDIN_FILENO;
 use libc::STDOUT_FILENO;
+use plate::Rounding;
 use words::word_at;
 
 fn main() {
@@ -26,9 +26,9 @@ fn refused(number: u64) {
 }
 
 fn show_map(map: &[u8], out: &mut [u8]) {
-    let listed = cutter::list(Rounding::NEAREST, map, out);
-    if listed.refusal != 0 {
-        refused(listed.refusal as u64);
+    let reply = plate::list(Rounding::NEAREST, map, out);
+    if reply.refusal != 0 {
+        refused(reply.refusal as u64);
         return;
     }
     show_list(read_trailer(map), out);

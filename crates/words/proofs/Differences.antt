@@ -106,14 +106,6 @@ diff-word a b ha hb =
     (λ h. ap wordOf (diff-le a b h) ∙ omega arith)
     (λ h. ap wordOf (diff-lt a b h) ∙ omega arith)
 
--- a word, read as a signed number and written again
-pub word-signed : (u : ℕ) → u < 4294967296 → wordOf (signed u) ≡ u
-unfolding signed wordOf
-word-signed u hu =
-    either u 2147483648
-    (λ k. simp (le-ltb u 2147483648 k) (diff-word u 4294967296 hu (omega arith) ∙ omega arith))
-    (λ k. simp (lt-ltb u 2147483648 k))
-
 -- a signed number, written as a word and read again
 pub word-small : (z : ℤ) → natAbs z < 2147483648 → wordOf z < 4294967296
 unfolding wordOf
@@ -129,18 +121,10 @@ signed-word (negsuc n) h =
     simp (le-ltb (4294967296 - suc n) 2147483648 k)
     (diff-lt (4294967296 - suc n) 4294967296 l ∙ ap negsuc (omega arith))
 
--- the words of a sum with a signed number
-pub moved-less : (t : Bool) (n m : ℕ) → n < 2147483648 → m < 2147483648 → t ≡ true
-    → (n + 4294967296 - m) % 4294967296 ≡ wordOf (pos n +ℤ withSign t m)
-unfolding withSign
-moved-less t n m hn hm e =
-    sym (diff-word n m (omega arith) (omega arith))
-    ∙ ap wordOf (diff-eq n m (n + 0) (0 + m) (omega arith) ∙ sym (diff-add n 0 0 m) ∙ ap₂ _+ℤ_ (sym (diff-pos n)) (sym (neg-pos m)))
-    ∙ ap (λ (t : Bool). wordOf (pos n +ℤ withSign t m)) (sym e)
-
-pub moved-more : (t : Bool) (n m : ℕ) → t ≡ false → n + m ≡ wordOf (pos n +ℤ withSign t m)
-unfolding withSign wordOf
-moved-more t n m e = ap (λ (t : Bool). wordOf (pos n +ℤ withSign t m)) (sym e)
+-- a word below 2^31 is the number itself
+pub signed-small : (u : ℕ) → u < 2147483648 → signed u ≡ pos u
+unfolding signed
+signed-small u h = simp (lt-ltb u 2147483648 h)
 
 -- the words of a word's number with a difference added
 lifted-by : (u a b : ℕ) → u < 4294967296 → a < 2147483648 → b < 2147483648

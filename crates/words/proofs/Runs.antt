@@ -2,7 +2,7 @@
 use mathlib.Core.Path.{_≡_, refl, sym, ap, _∙_}
 use mathlib.Core.List.{List, _++_, append-nil, append-assoc}
 use Prim.Native.Nat.{ℕ, zero, suc, _+_, _*_, _≤_, _<_}
-use native.Mathlib.Nat.{add-zero, add-assoc, zero-mul, suc-mul, mul-le-mul-right, not-suc-le-zero}
+use native.Mathlib.Nat.{add-zero, add-suc, add-assoc, zero-mul, suc-mul, mul-le-mul-right, not-suc-le-zero}
 use native.Mathlib.Numerals.{add-one}
 use native.Mathlib.Omega.{arith}
 use native.Mathlib.Decide.{decLt}
@@ -19,23 +19,22 @@ unfolding joined
 joined-same f g zero e = refl
 joined-same f g (suc n) e = cc (joined-same f g n (λ i h. e i (omega arith)), e n (omega arith))
 
--- a runs, and b behind them
-joined-add : (f : ℕ → List ℕ) (a b : ℕ) → joined f (a + b) ≡ joined f a ++ joined (λ (i : ℕ). f (a + i)) b
+-- some runs, and the runs behind them
+joined-split : (f : ℕ → List ℕ) (a b : ℕ) → joined f (a + b) ≡ joined f a ++ joined (λ (i : ℕ). f (a + i)) b
 unfolding joined
-joined-add f a zero = ap (joined f) (add-zero a) ∙ sym (append-nil (joined f a))
-joined-add f a (suc b) =
-    let e : a + suc b ≡ suc (a + b) = omega arith in
-    ap (joined f) e
-    ∙ ap (λ (l : List ℕ). l ++ f (a + b)) (joined-add f a b)
+joined-split f a zero = ap (joined f) (add-zero a) ∙ sym (append-nil (joined f a))
+joined-split f a (suc b) =
+    ap (joined f) (add-suc a b)
+    ∙ ap (λ (l : List ℕ). l ++ f (a + b)) (joined-split f a b)
     ∙ append-assoc (joined f a) (joined (λ (i : ℕ). f (a + i)) b) (f (a + b))
 
--- n times k runs
+-- n rows of k runs each
 pub joined-rows : (f : ℕ → List ℕ) (k n : ℕ) → joined (λ (r : ℕ). joined (λ (i : ℕ). f (r * k + i)) k) n ≡ joined f (n * k)
 unfolding joined
-joined-rows f k zero = ap (joined f) (sym (zero-mul k))
+joined-rows f k zero = sym (ap (joined f) (zero-mul k))
 joined-rows f k (suc n) =
     ap (λ (l : List ℕ). l ++ joined (λ (i : ℕ). f (n * k + i)) k) (joined-rows f k n)
-    ∙ sym (joined-add f (n * k) k)
+    ∙ sym (joined-split f (n * k) k)
     ∙ ap (joined f) (sym (suc-mul n k))
 
 module _ (f : ℕ → List ℕ) (k : ℕ) (each : (i : ℕ) → length (f i) ≡ k) where

@@ -6,10 +6,10 @@ use native.Mathlib.Nat.{add-assoc, zero-add, div-div-eq-div-mul, div-add-mod', m
 use native.Mathlib.Numerals.{add-one, add-two, add-three}
 use native.Mathlib.Omega.{arith}
 use lib.Dec.{lit<}
-use lib.ListN.{length, getD, take, drop, set, length-append, length-drop, length-take, drop-of-length-le, List·getD-append}
-use lib.Seq.{sets-eq, drop-cons, drop-append-add, take-append-seam, drop-append-seam, drop-drop, getD-append-add}
+use lib.ListN.{length, getD, take, drop, set, length-append, length-take, drop-of-length-le}
+use lib.Seq.{sets-eq, drop-cons, drop-append-add, take-append-seam, drop-append-seam, drop-drop}
 use Rattle.words.specs.Splice.{splice}
-use Rattle.words.specs.Word.{halfAt, wordAt, wordBytes, halfBytes}
+use Rattle.words.specs.Word.{wordAt, wordBytes, halfBytes}
 
 -- four stores in a row
 pub four : (l : List ℕ) (at a b c d : ℕ) → at + 4 ≤ length l
@@ -33,10 +33,6 @@ pub splice-front : (p b l : List ℕ) (at : ℕ) → at ≡ length p
     → splice at b (p ++ drop at l) ≡ (p ++ b) ++ drop (at + length b) l
 unfolding splice
 splice-front p b l at h = rw (h, take-append-seam, drop-append-add, drop-drop)
-
-pub length-splice : (at : ℕ) (b l : List ℕ) → at + length b ≤ length l → length (splice at b l) ≡ length l
-unfolding splice
-length-splice at b l h = simp (length-append, length-take, length-drop) (omega arith)
 
 -- a second run right behind the first
 pub splice-splice : (at : ℕ) (a b l : List ℕ) → at + length a + length b ≤ length l
@@ -70,10 +66,6 @@ pub length-word : (x : ℕ) → length (wordBytes x) ≡ 4
 unfolding wordBytes
 length-word x = refl
 
-pub length-half : (x : ℕ) → length (halfBytes x) ≡ 2
-unfolding halfBytes
-length-half x = refl
-
 -- two numbers of 16 bits put as one of 32
 pub pair-bytes : (a b : ℕ) → a < 65536 → b < 65536 → wordBytes (a + 65536 * b) ≡ halfBytes a ++ halfBytes b
 unfolding wordBytes halfBytes
@@ -100,17 +92,6 @@ word-back x h =
     let d : x / 16777216 % 256 ≡ x / 16777216 = mod-eq-of-lt c in
     omega (arith, div-add-mod' x 256, div-add-mod' (x / 256) 256, div-add-mod' (x / 65536) 256)
 
-pub half-back : (x : ℕ) → x < 65536 → halfAt (halfBytes x) 0 ≡ x
-unfolding halfBytes
-half-back x h =
-    let c : x / 256 < 256 = div-lt-iff-lt-mul (lit< tt) .1 h in
-    let d : x / 256 % 256 ≡ x / 256 = mod-eq-of-lt c in
-    omega (arith, div-add-mod' x 256)
-
--- so two numbers with the same bytes are the same
-pub word-bytes-same : (x y : ℕ) → x < 4294967296 → y < 4294967296 → wordBytes x ≡ wordBytes y → x ≡ y
-word-bytes-same x y hx hy e = sym (word-back x hx) ∙ ap (λ (s : List ℕ). wordAt s 0) e ∙ word-back y hy
-
 -- the words of a run of three
 pub three-back : (x y z : ℕ) → x < 4294967296 → y < 4294967296 → z < 4294967296
     → (wordAt (wordBytes x ++ wordBytes y ++ wordBytes z) 0 ≡ x)
@@ -118,23 +99,3 @@ pub three-back : (x y z : ℕ) → x < 4294967296 → y < 4294967296 → z < 429
     × (wordAt (wordBytes x ++ wordBytes y ++ wordBytes z) 8 ≡ z)
 unfolding wordBytes
 three-back x y z hx hy hz = (word-back x hx, word-back y hy, word-back z hz)
-
--- a word within the first of two lists, and one within the second
-pub word-front : (a b : List ℕ) (j : ℕ) → j + 4 ≤ length a → wordAt (a ++ b) j ≡ wordAt a j
-word-front a b j h =
-    let b₀ : getD (a ++ b) j 0 ≡ getD a j 0 = List·getD-append a b 0 j (omega arith) in
-    let b₁ : getD (a ++ b) (j + 1) 0 ≡ getD a (j + 1) 0 = List·getD-append a b 0 (j + 1) (omega arith) in
-    let b₂ : getD (a ++ b) (j + 2) 0 ≡ getD a (j + 2) 0 = List·getD-append a b 0 (j + 2) (omega arith) in
-    let b₃ : getD (a ++ b) (j + 3) 0 ≡ getD a (j + 3) 0 = List·getD-append a b 0 (j + 3) (omega arith) in
-    cc
-
-pub word-behind : (a b : List ℕ) (j : ℕ) → wordAt (a ++ b) (length a + j) ≡ wordAt b j
-word-behind a b j =
-    let b₀ : getD (a ++ b) (length a + j) 0 ≡ getD b j 0 = getD-append-add a b j 0 in
-    let b₁ : getD (a ++ b) (length a + j + 1) 0 ≡ getD b (j + 1) 0 = byte 1 in
-    let b₂ : getD (a ++ b) (length a + j + 2) 0 ≡ getD b (j + 2) 0 = byte 2 in
-    let b₃ : getD (a ++ b) (length a + j + 3) 0 ≡ getD b (j + 3) 0 = byte 3 in
-    cc
-  where
-    byte : (s : ℕ) → getD (a ++ b) (length a + j + s) 0 ≡ getD b (j + s) 0
-    byte s = ap (λ (x : ℕ). getD (a ++ b) x 0) (add-assoc (length a) j s) ∙ getD-append-add a b (j + s) 0

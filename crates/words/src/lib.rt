@@ -2,7 +2,7 @@
 ghost use mathlib.Core.Path.{_≡_};
 ghost use Prim.Native.Nat.{_+_, _*_, _%_, _≤_, _<_};
 ghost use lib.ListN.{length};
-ghost use lib.IntN.{pos, _+ℤ_, subℕ};
+ghost use lib.IntN.{_+ℤ_, subℕ};
 ghost use Rattle.words.specs.Word.{halfAt, wordAt, wordBytes, readsAt};
 ghost use Rattle.words.specs.Splice.{splice};
 ghost use Rattle.words.specs.Signed.{signed, wordOf, withSign};
@@ -102,19 +102,6 @@ pub fn difference(a: u64, b: u64) -> Signed
             negative: true,
             magnitude: b - a,
         }
-    }
-}
-
-// The word of a number from 0 on with a signed number added.
-pub fn moved(base: u64, s: Signed) -> u64
-    requires { ⌜ (base < 2147483648) × (s .magnitude < 2147483648) ⌝ }
-    ensures { λ r. ⌜ r ≡ wordOf (pos base +ℤ withSign (s .negative) (s .magnitude)) ⌝ }
-{
-    let m = s.magnitude;
-    if s.negative {
-        (base + 4294967296 - m) % 4294967296
-    } else {
-        base + m
     }
 }
 

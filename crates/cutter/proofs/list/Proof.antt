@@ -1,5 +1,7 @@
 -- `cutter::list` meets its contract: after a "no" nothing is put, and else the list. Assumes nothing.
 use borrow.Author.Needs.{needs}
+use mathlib.Core.Path.{_≡_}
+use native.Mathlib.Omega.{arith}
 use Rattle.cutter.proofs.Whole.{refused-reply, refused-kept, given-none, given-reply, given-kept}
 use Rattle.cutter.proofs.list.Statement.{statement}
 use Rattle.cutter.proofs.list.Tie as tie
@@ -8,7 +10,9 @@ first-no-requires : tie.Need-first-no-requires
 first-no-requires c κs = search needs
 
 returns : tie.Need-returns
-returns c = (search (refused-reply (c .if1 .taken)), search (refused-kept (c .if1 .taken)))
+returns c =
+    let h : c .before .first-no .result ≡ 0 → ⊥ = λ e. omega arith in
+    (search (refused-reply h), search (refused-kept h))
 
 put-list-requires : tie.Need-put-list-requires
 put-list-requires c κs = search given-none

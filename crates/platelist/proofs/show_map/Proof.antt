@@ -1,6 +1,6 @@
 -- `platelist::show_map` is safe and ends: a reply without a "no" bounds the sizes, and the buffer holds the list. Assumes nothing.
 use borrow.Author.Needs.{needs}
-use Rattle.cutter.proofs.Whole.{told-sixteen, told-sizes, told-room}
+use Rattle.platelist.proofs.Told.{told-sixteen, told-sizes, told-room}
 use Rattle.platelist.proofs.show_map.Statement.{statement}
 use Rattle.platelist.proofs.show_map.Tie as tie
 

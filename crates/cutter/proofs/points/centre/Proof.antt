@@ -1,6 +1,6 @@
 -- `cutter::points::centre` meets its contract: the words are those of the map point plus the offsets. Assumes nothing.
 use borrow.Author.Needs.{needs}
-use Rattle.cutter.proofs.Centres.{column-fits, row-fits, column-small, row-small, centre-is}
+use Rattle.cutter.proofs.Centres.{coordinate-fits, coordinate-small, centre-is}
 use Rattle.cutter.proofs.Slopes.{place-in, place-fits, line-fits}
 use Rattle.cutter.proofs.points.centre.Statement.{statement}
 use Rattle.cutter.proofs.points.centre.Tie as tie
@@ -15,28 +15,28 @@ mul-height-word : tie.Need-mul-height-word
 mul-height-word c = search line-fits
 
 add-height-word : tie.Need-add-height-word
-add-height-word c = search place-fits
+add-height-word c = search (place-fits, needs)
 
 mul-height-word-2 : tie.Need-mul-height-word-2
 mul-height-word-2 c = search needs
 
 height-word-requires : tie.Need-height-word-requires
-height-word-requires c κs = (search place-in, search needs)
+height-word-requires c κs = (search (place-in, needs), search needs)
 
-mul-moved : tie.Need-mul-moved
-mul-moved c = search column-fits
-
-moved-requires : tie.Need-moved-requires
-moved-requires c κs = (search column-small, search needs)
-
-mul-moved-2 : tie.Need-mul-moved-2
-mul-moved-2 c = search row-fits
-
-moved-requires-2 : tie.Need-moved-requires-2
-moved-requires-2 c κs = (search row-small, search needs)
+mul-lifted : tie.Need-mul-lifted
+mul-lifted c = search coordinate-fits
 
 lifted-requires : tie.Need-lifted-requires
-lifted-requires c κs = search needs
+lifted-requires c κs = (search coordinate-small, search needs)
+
+mul-lifted-2 : tie.Need-mul-lifted-2
+mul-lifted-2 c = search coordinate-fits
+
+lifted-requires-2 : tie.Need-lifted-requires-2
+lifted-requires-2 c κs = (search coordinate-small, search needs)
+
+lifted-requires-3 : tie.Need-lifted-requires-3
+lifted-requires-3 c κs = search needs
 
 returns : tie.Need-returns
 returns c = search centre-is
@@ -51,9 +51,9 @@ centre-spec =
     add-height-word
     mul-height-word-2
     height-word-requires
-    mul-moved
-    moved-requires
-    mul-moved-2
-    moved-requires-2
+    mul-lifted
     lifted-requires
+    mul-lifted-2
+    lifted-requires-2
+    lifted-requires-3
     returns)

@@ -1,6 +1,6 @@
 -- `cutter::points::offsets_of` meets its contract: each component is in its range. Assumes nothing.
 use borrow.Author.Needs.{needs}
-use Rattle.cutter.proofs.Centres.{squared-least, squared-most, ranges-x, ranges-y, ranges-z, offsets-are}
+use Rattle.cutter.proofs.Centres.{squared-least, squared-most, ranges, offsets-are}
 use Rattle.cutter.proofs.points.offsets_of.Statement.{statement}
 use Rattle.cutter.proofs.points.offsets_of.Tie as tie
 
@@ -11,13 +11,13 @@ mul-t11 : tie.Need-mul-t11
 mul-t11 c = search needs
 
 offset-of-requires : tie.Need-offset-of-requires
-offset-of-requires c κs = (search ranges-x, search needs)
+offset-of-requires c κs = (search ranges, search needs)
 
 offset-of-requires-2 : tie.Need-offset-of-requires-2
-offset-of-requires-2 c κs = (search ranges-y, search needs)
+offset-of-requires-2 c κs = (search ranges, search needs)
 
 offset-of-requires-3 : tie.Need-offset-of-requires-3
-offset-of-requires-3 c κs = (search ranges-z, search needs)
+offset-of-requires-3 c κs = (search ranges, search needs)
 
 returns : tie.Need-returns
 returns c = (search offsets-are, search needs)

@@ -1,0 +1,17 @@
+-- `pattern::neighbour::next_if` meets its contract: one more is the successor. Assumes nothing.
+use borrow.Author.Needs.{needs}
+use Rattle.pattern.proofs.Assembly.{next-is}
+use Rattle.pattern.proofs.neighbour.next_if.Statement.{statement}
+use Rattle.pattern.proofs.neighbour.next_if.Tie as tie
+
+add-result : tie.Need-add-result
+add-result c = search needs
+
+returns : tie.Need-returns
+returns c = (search next-is, search needs)
+
+returns-2 : tie.Need-returns-2
+returns-2 c = search needs
+
+pub next-if-spec : {M : Type 1} → statement M
+next-if-spec = tie.close (tie.spec add-result returns returns-2)

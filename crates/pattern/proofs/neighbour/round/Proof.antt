@@ -1,0 +1,47 @@
+-- `pattern::neighbour::round` meets its contract: each call gives one part of the definition. Assumes nothing.
+use borrow.Author.Needs.{needs}
+use Rattle.pattern.specs.Neighbour.{roundedFrom}
+use Rattle.pattern.proofs.neighbour.round.Statement.{statement}
+use Rattle.pattern.proofs.neighbour.round.Tie as tie
+
+goes-away-requires : tie.Need-goes-away-requires
+goes-away-requires c κs = search needs
+
+next-if-requires : tie.Need-next-if-requires
+next-if-requires c κs = search needs
+
+flag-if-requires : tie.Need-flag-if-requires
+flag-if-requires c κs = search needs
+
+flag-if-requires-2 : tie.Need-flag-if-requires-2
+flag-if-requires-2 c κs = search needs
+
+add-flags : tie.Need-add-flags
+add-flags c = search needs
+
+flag-if-requires-3 : tie.Need-flag-if-requires-3
+flag-if-requires-3 c κs = search needs
+
+add-flags-2 : tie.Need-add-flags-2
+add-flags-2 c = search needs
+
+with-sign-requires : tie.Need-with-sign-requires
+with-sign-requires c κs = search needs
+
+returns : tie.Need-returns
+unfolding roundedFrom
+returns c = cc
+
+pub round-spec : {M : Type 1} → statement M
+round-spec =
+    tie.close
+    (tie.spec
+    goes-away-requires
+    next-if-requires
+    flag-if-requires
+    flag-if-requires-2
+    add-flags
+    flag-if-requires-3
+    add-flags-2
+    with-sign-requires
+    returns)

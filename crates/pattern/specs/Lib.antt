@@ -1,0 +1,3 @@
+pub mod Parts
+pub mod Neighbour
+pub mod Special

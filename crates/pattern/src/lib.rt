@@ -1,0 +1,10 @@
+// Binary32 patterns: their fields, operands that need no arithmetic, and how a rounded answer is put together.
+pub mod neighbour;
+pub mod parts;
+pub mod special;
+
+// A pattern and the flags that its operation raises.
+pub struct Rounded {
+    pub bits: u32,
+    pub flags: u8,
+}

@@ -1,0 +1,94 @@
+// From a floor with a guard bit to the pattern below the exact result, and from there to the rounded pattern and its flags.
+ghost use mathlib.Core.Path.{_≡_};
+ghost use mathlib.Core.Bool.{cond};
+ghost use Prim.Native.Nat.{suc, _-_, _^_, _≤_, _<_, min};
+ghost use Rattle.kinds.specs.Rounding.{modeOf};
+ghost use Rattle.ieee.specs.Format.{binary32};
+ghost use Rattle.ieee.specs.Answer.{signed};
+ghost use Rattle.pattern.specs.Neighbour.{neighbourOf, roundedFrom};
+use crate::Rounded;
+use kinds::Flag;
+use kinds::Rounding;
+use kinds::goes_away;
+
+// The finite pattern below an exact result. The midpoint to the next is reached where `half` is true, and something lies above what
+// is reached where `more` is true. `beyond` says that the exact result is 2^128 or more.
+pub struct Neighbour {
+    pub pattern: u32,
+    pub half: bool,
+    pub more: bool,
+    pub beyond: bool,
+}
+
+// The floor q at the scale k stands for q × 2^(k − 3) units. Below k = 2 the result is subnormal and loses 2 − k bits. Where q is
+// 2^25, the carry into the exponent comes out right by itself.
+pub fn lower(q: u64, more: bool, k: u64) -> Neighbour
+    requires { ⌜ (q ≤ 2 ^ 25) × (k ≤ 276) ⌝ }
+    ensures { λ r. ⌜ r ≡ neighbourOf q more k ⌝ }
+{
+    let lost = less(2, k);
+    let kept = q >> lost;
+    let pattern = (less(k, 2) << 23) + (kept >> 1);
+    let beyond = 0x7F80_0000 <= pattern;
+    Neighbour {
+        pattern: least(pattern, 0x7F7F_FFFF) as u32,
+        half: (kept % 2 == 1) | beyond,
+        more: more | ((kept << lost) != q) | beyond,
+        beyond,
+    }
+}
+
+// a less b, and 0 where that would be negative.
+fn less(a: u64, b: u64) -> u64
+    ensures { λ r. ⌜ r ≡ a - b ⌝ }
+{
+    if b <= a { a - b } else { 0 }
+}
+
+fn least(a: u64, b: u64) -> u64
+    ensures { λ r. ⌜ r ≡ min a b ⌝ }
+{
+    if a <= b { a } else { b }
+}
+
+// The neighbour that the rounding takes, with its sign, and the flags.
+pub fn round(rounding: Rounding, sign: u32, n: Neighbour) -> Rounded
+    requires { ⌜ (sign < 2) × (n .pattern < 2139095040) ⌝ }
+    ensures { λ r. ⌜ r ≡ roundedFrom (modeOf (rounding .0)) sign n ⌝ }
+{
+    let odd = n.pattern % 2 == 1;
+    let t = next_if(
+        goes_away(rounding, sign == 1, odd, n.half, n.more),
+        n.pattern,
+    );
+    let inexact = n.half | n.more;
+    let overflow = n.beyond | (t == 0x7F80_0000);
+    let underflow = (n.pattern < 0x80_0000) & inexact;
+    let flags = flag_if(overflow, Flag::OVERFLOW)
+        + flag_if(underflow, Flag::UNDERFLOW)
+        + flag_if(inexact, Flag::INEXACT);
+    Rounded {
+        bits: with_sign(sign, t),
+        flags,
+    }
+}
+
+fn next_if(away: bool, t: u32) -> u32
+    requires { ⌜ t < 2139095040 ⌝ }
+    ensures { λ r. ⌜ (r ≡ cond away (suc t) t) × (r ≤ 2139095040) ⌝ }
+{
+    if away { t + 1 } else { t }
+}
+
+pub fn flag_if(on: bool, flag: Flag) -> u8
+    ensures { λ r. ⌜ (r ≡ cond on (flag .0) 0) × (r ≤ flag .0) ⌝ }
+{
+    if on { flag.0 } else { 0 }
+}
+
+pub fn with_sign(sign: u32, t: u32) -> u32
+    requires { ⌜ (sign < 2) × (t < 2 ^ 31) ⌝ }
+    ensures { λ r. ⌜ r ≡ signed binary32 sign t ⌝ }
+{
+    (sign << 31) | t
+}
