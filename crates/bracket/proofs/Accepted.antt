@@ -11,7 +11,7 @@ use Rattle.cutter.specs.Centre.{pointAt}
 use Rattle.cutter.specs.List.{countOf, innerPoint}
 use Rattle.cutter.specs.Call.{listRefusal}
 use Rattle.cutter.specs.Asked.{Sizes, Steps, Heights}
-use Rattle.cutter.proofs.Whole as whole
+use Rattle.listing.proofs.Whole as whole
 use Rattle.bracket.proofs.Centre.{InRange, abs-add}
 use Rattle.bracket.proofs.Places.{inner-at}
 

@@ -4,5 +4,3 @@ pub mod List
 pub mod Call
 pub mod Agree
 pub mod Asked
-pub mod Normal
-pub mod Reply

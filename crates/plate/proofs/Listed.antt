@@ -8,11 +8,11 @@ use native.Mathlib.Decide.{ℕ-discrete}
 use native.Mathlib.Omega.{arith}
 use lib.ListN.{length}
 use borrow.Author.Tests.{eq-eqb, ne-eqb}
-use Rattle.cutter.specs.declared.Listed.{Listed}
+use Rattle.listing.specs.declared.Listed.{Listed}
 use Rattle.cutter.specs.Map.{widthOf, depthOf}
 use Rattle.cutter.specs.List.{countOf, listLength}
 use Rattle.cutter.specs.Call.{listRefusal, listAnswer, bufferAfter}
-use Rattle.cutter.specs.Reply.{listReply as listedReply}
+use Rattle.listing.specs.Reply.{listReply as listedReply}
 use Rattle.bracket.proofs.Accepted.{accepted-of}
 use Rattle.plate.specs.declared.ListReply.{ListReply}
 use Rattle.plate.specs.List.{listReply, ListCall}

@@ -107,7 +107,7 @@ pub struct ListReply {
 pub fn list(rounding: Rounding, map: &[u8], buffer: &mut [u8]) -> ListReply
     ensures { λ r. ⌜ ListCall (rounding .0) (now (map .entry)) (now (buffer .entry)) r (now (buffer .exit)) ⌝ }
 {
-    let listed = cutter::list(rounding, map, buffer);
+    let listed = listing::list(rounding, map, buffer);
     ListReply {
         refusal: listed.refusal,
         length: listed.length,

@@ -5,9 +5,9 @@ use Prim.Native.Nat.{ℕ, _-_, _*_, _≤_}
 use lib.ListN.{length}
 use Rattle.cutter.specs.Asked.{trailerOf, Sizes}
 use Rattle.cutter.specs.declared.trailer.Trailer.{Trailer}
-use Rattle.cutter.specs.declared.Listed.{Listed}
-use Rattle.cutter.specs.Reply.{listReply}
-use Rattle.cutter.proofs.Whole as whole
+use Rattle.listing.specs.declared.Listed.{Listed}
+use Rattle.listing.specs.Reply.{listReply}
+use Rattle.listing.proofs.Whole as whole
 use Rattle.plate.specs.declared.ListReply.{ListReply}
 use Rattle.plate.specs.List.{ListCall}
 

@@ -1,0 +1,3 @@
+// The cutter's centres: the heights round a point, the offsets, and the record of a centre.
+pub mod heights;
+pub mod points;

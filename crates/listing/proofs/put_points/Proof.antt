@@ -1,0 +1,45 @@
+-- `listing::put_points` meets its contract: after some turns the records of so many rows are put. Assumes nothing.
+use Prim.Native.Nat.{_-_}
+use borrow.Author.Needs.{needs}
+use Rattle.listing.proofs.Rows.{rows-more, rows-put}
+use Rattle.listing.specs.Reply.{rowBytes}
+use Rattle.kinds.specs.Rounding.{modeOf}
+use Rattle.words.proofs.Runs.{Written, written-none}
+use Rattle.listing.proofs.put_points.Statement.{statement}
+use Rattle.listing.proofs.put_points.Tie as tie
+
+abbrev Inv-loop : tie.InvT-loop
+Inv-loop rounding map out₀ trailer rows row₀ out row =
+    Written (rowBytes (modeOf (rounding .0)) map (trailer .width - 2)) 0 (trailer .depth - 2) out₀ out row
+
+abbrev μ-loop : tie.MeasureT-loop
+μ-loop rounding map out₀ trailer rows row₀ out row = trailer .depth - 2 - row
+
+sub-rows : tie.Need-sub-rows Inv-loop μ-loop
+sub-rows c = search needs
+
+loop-holds : tie.Need-loop-holds Inv-loop μ-loop
+loop-holds c = search written-none
+
+put-row-requires : tie.Need-put-row-requires Inv-loop μ-loop
+put-row-requires c κs = search needs
+
+add-row : tie.Need-add-row Inv-loop μ-loop
+add-row c = search needs
+
+loop-less : tie.Need-loop-less Inv-loop μ-loop
+loop-less c = search needs
+
+loop-again : tie.Need-loop-again Inv-loop μ-loop
+loop-again c = search rows-more
+
+same-length : tie.Need-same-length Inv-loop μ-loop
+same-length c = search needs
+
+returns : tie.Need-returns Inv-loop μ-loop
+returns c = search rows-put
+
+pub put-points-spec : {M : Type 1} → statement M
+put-points-spec =
+    tie.close
+    (tie.spec Inv-loop μ-loop sub-rows loop-holds put-row-requires add-row loop-less loop-again same-length returns)

@@ -1,0 +1,79 @@
+-- `listing::put_row` meets its contract: after n turns the row's first n records are put. Assumes nothing.
+use Prim.Native.Nat.{_-_, _*_}
+use borrow.Author.Needs.{needs}
+use Rattle.listing.proofs.Rows.{inner-of, row-fits, place-fits, points-more, point-room, row-put}
+use Rattle.listing.specs.Reply.{rowRecord}
+use Rattle.kinds.specs.Rounding.{modeOf}
+use Rattle.words.proofs.Runs.{Written, written-none}
+use Rattle.listing.proofs.put_row.Statement.{statement}
+use Rattle.listing.proofs.put_row.Tie as tie
+
+abbrev Inv-loop : tie.InvT-loop
+Inv-loop rounding map out₀ trailer row count first n₀ out n =
+    Written (rowRecord (modeOf (rounding .0)) map (trailer .width - 2) row) (row * (12 * (trailer .width - 2))) (trailer .width - 2) out₀ out n
+
+abbrev μ-loop : tie.MeasureT-loop
+μ-loop rounding map out₀ trailer row count first n₀ out n = trailer .width - 2 - n
+
+sub-count : tie.Need-sub-count Inv-loop μ-loop
+sub-count c = search needs
+
+mul-first : tie.Need-mul-first Inv-loop μ-loop
+mul-first c = search needs
+
+mul-first-2 : tie.Need-mul-first-2 Inv-loop μ-loop
+mul-first-2 c = search row-fits
+
+loop-holds : tie.Need-loop-holds Inv-loop μ-loop
+loop-holds c = search written-none
+
+add-put-point : tie.Need-add-put-point Inv-loop μ-loop
+add-put-point c = search needs
+
+add-put-point-2 : tie.Need-add-put-point-2 Inv-loop μ-loop
+add-put-point-2 c = search needs
+
+mul-put-point : tie.Need-mul-put-point Inv-loop μ-loop
+mul-put-point c = search needs
+
+add-put-point-3 : tie.Need-add-put-point-3 Inv-loop μ-loop
+add-put-point-3 c = search place-fits
+
+put-point-requires : tie.Need-put-point-requires Inv-loop μ-loop
+put-point-requires c κs = (search needs, (search inner-of, search point-room))
+
+add-n : tie.Need-add-n Inv-loop μ-loop
+add-n c = search needs
+
+loop-less : tie.Need-loop-less Inv-loop μ-loop
+loop-less c = search needs
+
+loop-again : tie.Need-loop-again Inv-loop μ-loop
+loop-again c = search points-more
+
+same-length : tie.Need-same-length Inv-loop μ-loop
+same-length c = search needs
+
+returns : tie.Need-returns Inv-loop μ-loop
+returns c = search row-put
+
+pub put-row-spec : {M : Type 1} → statement M
+put-row-spec =
+    tie.close
+    (tie.spec
+    Inv-loop
+    μ-loop
+    sub-count
+    mul-first
+    mul-first-2
+    loop-holds
+    add-put-point
+    add-put-point-2
+    mul-put-point
+    add-put-point-3
+    put-point-requires
+    add-n
+    loop-less
+    loop-again
+    same-length
+    returns)

@@ -1,0 +1,20 @@
+-- What the list call hands back, and the rows of a map's inner points. Assumes nothing.
+use Prim.Native.Nat.{ℕ, _+_, _*_}
+use mathlib.Core.List.{List}
+use Rattle.kinds.specs.Rounding.{Mode}
+use Rattle.words.specs.Joined.{joined}
+use Rattle.cutter.specs.List.{recordAt}
+use Rattle.cutter.specs.Call.{listRefusal, listAnswer}
+use Rattle.listing.specs.declared.Listed.{Listed}
+
+-- the number of the first "no", or 0, and the length reported
+abbrev pub listReply : ℕ → List ℕ → ℕ → Listed
+listReply rounding m room = record { refusal = listRefusal rounding m room; length = listAnswer rounding m room }
+
+-- the record of point n of a row of k inner points, where row and n are counted from 0
+unfoldable pub rowRecord : Mode → List ℕ → ℕ → ℕ → ℕ → List ℕ
+rowRecord mode m k row n = recordAt mode m (row * k + n)
+
+-- the records of a row
+unfoldable pub rowBytes : Mode → List ℕ → ℕ → ℕ → List ℕ
+rowBytes mode m k row = joined (rowRecord mode m k row) k
