@@ -16,7 +16,7 @@ use Rattle.pattern.specs.Parts.{patternOf, PartsOf, Ranges}
 use Rattle.binary32.specs.Operand.{Ordinary}
 use Rattle.pattern.specs.Neighbour.{roundedAnswer, takenFrom, roundedFrom}
 use Rattle.binary32.specs.Below.{BelowResult}
-use Rattle.pattern.specs.Special.{isSpecialAt, isSpecial, specialAt, specialTo}
+use Rattle.special.specs.Special.{isSpecialAt, isSpecial, specialAt, specialTo}
 use Rattle.pattern.specs.declared.parts.Parts.{Parts}
 use Rattle.pattern.specs.declared.neighbour.Neighbour.{Neighbour}
 use Rattle.pattern.specs.declared.Rounded.{Rounded}

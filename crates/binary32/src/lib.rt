@@ -15,8 +15,8 @@ use kinds::Rounding;
 pub use pattern::Rounded;
 use pattern::neighbour::round;
 use pattern::parts::fields;
-use pattern::special::is_special;
-use pattern::special::special;
+use special::is_special;
+use special::special;
 
 // An operation on a pattern. A number that is no operation's or no rounding's counts as the last: whoever calls asks the questions.
 pub fn answer(operation: Operation, rounding: Rounding, bits: u32) -> Rounded

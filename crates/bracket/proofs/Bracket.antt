@@ -17,11 +17,13 @@ use Rattle.cutter.specs.Call.{listRefusal}
 use Rattle.cutter.specs.Agree.{ExactAt, ExactMap}
 use Rattle.bracket.specs.Bracket.{coordinate, CentreBracket, ListBracket}
 use Rattle.bracket.proofs.Centre.{same-centre, centre-bracket}
-use Rattle.bracket.proofs.Accepted.{Accepted, accepted-of, inner-in-range}
+use Rattle.cutter.proofs.Lengths.{length-record}
+use Rattle.cutter.proofs.Accepted.{Accepted, accepted-of}
+use Rattle.bracket.proofs.Points.{inner-in-range}
 use Rattle.bracket.proofs.Places.{inner-at, at-every}
-use Rattle.bracket.proofs.Entries.{length-record, record-entry, centre-small, list-held}
+use Rattle.bracket.proofs.Entries.{record-entry, centre-small, list-held}
 
-module _ (m : List ℕ) (a : Accepted m) where
+module _ (m : List ℕ) {room : ℕ} (a : Accepted m room) where
   -- the same bytes come from the same centres
   same-centres : listBytes down m ≡ listBytes up m → (n : ℕ) → n < countOf (widthOf m) (depthOf m) → centreAt down m n ≡ centreAt up m n
   unfolding listBytes recordAt

@@ -11,7 +11,7 @@ use lib.IntN.{ℤ, pos, negsuc, negℤ, natAbs, subℕ, _+ℤ_, +ℤ-assoc, +ℤ
 use Rattle.kinds.specs.Rounding.{Mode, up, down}
 use Rattle.numbers.proofs.Squares.{square-same}
 use Rattle.words.proofs.Differences.{abs-neg}
-use Rattle.offset.specs.Offset.{squaredLength, offsetOf, MultipleOf}
+use Rattle.cutter.specs.Offset.{squaredLength, offsetOf, MultipleOf}
 use Rattle.cutter.specs.Centre.{Point, Centre, centreOf}
 use Rattle.cutter.specs.Agree.{ExactAt}
 use Rattle.bracket.specs.Bracket.{WholeOver, coordinate, OffsetBracket, CentreBracket}

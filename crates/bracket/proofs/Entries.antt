@@ -3,44 +3,26 @@ use mathlib.Core.Path.{_≡_, refl, ap, _∙_}
 use mathlib.Core.List.{List, _++_, append-assoc}
 use Prim.Native.Nat.{ℕ, zero, suc, _+_, _*_, _<_}
 use native.Mathlib.Omega.{arith}
-use lib.ListN.{length, drop, length-append}
+use lib.ListN.{length, drop}
 use lib.IntN.{natAbs}
 use Rattle.kinds.specs.Rounding.{Mode, modeOf}
-use Rattle.words.specs.Word.{wordAt, wordBytes, halfBytes}
+use Rattle.words.specs.Word.{wordAt}
 use Rattle.words.specs.Signed.{signed, wordOf}
 use Rattle.words.specs.Splice.{splice}
 use Rattle.words.specs.Joined.{joined}
 use Rattle.words.proofs.Differences.{word-small, signed-word}
 use Rattle.words.proofs.Splicing.{splice-take, splice-drop, three-back}
-use Rattle.words.proofs.Runs.{length-joined, joined-word}
+use Rattle.words.proofs.Runs.{joined-word}
 use Rattle.cutter.specs.Map.{widthOf, depthOf, stepOf, radiusOf}
 use Rattle.cutter.specs.Centre.{Centre, recordBytes}
-use Rattle.cutter.specs.List.{countOf, centreAt, recordAt, trailerBytes, listLength, listBytes}
+use Rattle.cutter.specs.List.{innerPoint, countOf, centreAt, recordAt, trailerBytes, listLength, listBytes}
 use Rattle.cutter.specs.Call.{listRefusal, listAnswer, bufferAfter}
 use Rattle.cutter.specs.Agree.{entryAt}
-use Rattle.cutter.specs.List.{innerPoint}
 use Rattle.bracket.specs.Bracket.{coordinate, ListHeld}
 use Rattle.bracket.proofs.Centre.{coordinate-small}
-use Rattle.bracket.proofs.Accepted.{Accepted, accepted-of, inner-in-range}
-
--- ---- lengths
-
--- a record, a trailer and a list
-pub length-record : (mode : Mode) (m : List ℕ) (n : ℕ) → length (recordAt mode m n) ≡ 12
-unfolding recordAt recordBytes wordBytes
-length-record mode m n = refl
-
-length-trailer : (back w d step radius : ℕ) → length (trailerBytes back w d step radius) ≡ 16
-unfolding trailerBytes wordBytes halfBytes
-length-trailer back w d step radius = refl
-
-length-list : (mode : Mode) (m : List ℕ) → length (listBytes mode m) ≡ listLength m
-unfolding listBytes listLength
-length-list mode m =
-    let c = countOf (widthOf m) (depthOf m) in
-    let t = trailerBytes (12 * c) (widthOf m) (depthOf m) (stepOf m) (radiusOf m) in
-    length-append (joined (recordAt mode m) c) t
-    ∙ omega (arith, length-joined (recordAt mode m) 12 (length-record mode m) c, length-trailer (12 * c) (widthOf m) (depthOf m) (stepOf m) (radiusOf m))
+use Rattle.cutter.proofs.Lengths.{length-record, length-list}
+use Rattle.cutter.proofs.Accepted.{Accepted, accepted-of}
+use Rattle.bracket.proofs.Points.{inner-in-range}
 
 -- ---- one record
 
@@ -86,7 +68,7 @@ list-word mode m out n j h l =
     ∙ joined-word f 12 (length-record mode m) c n (4 * j) (t ++ rest) h (omega arith)
 
 -- the centres of an accepted map have coordinates of 32 bits
-pub centre-small : (mode : Mode) (m : List ℕ) → Accepted m → (n : ℕ) → n < countOf (widthOf m) (depthOf m)
+pub centre-small : (mode : Mode) (m : List ℕ) {room : ℕ} → Accepted m room → (n : ℕ) → n < countOf (widthOf m) (depthOf m)
     → (j : ℕ) → natAbs (coordinate (centreAt mode m n) j) < 2147483648
 unfolding centreAt
 centre-small mode m a n h j =

@@ -1,6 +1,6 @@
 pub mod Offset
 pub mod Centre
 pub mod Places
-pub mod Accepted
+pub mod Points
 pub mod Entries
 pub mod Bracket

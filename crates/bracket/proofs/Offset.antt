@@ -15,7 +15,7 @@ use Rattle.numbers.proofs.Greatest.{greatest-found, greatest-above, squareFits,
 use Rattle.numbers.proofs.Squares.{square-rising, square-same, square-part}
 use Rattle.words.specs.Signed.{withSign, isNegative}
 use Rattle.words.proofs.Differences.{abs-sign}
-use Rattle.offset.specs.Offset.{floorOver, placeOver, roundedOver, offsetOf}
+use Rattle.cutter.specs.Offset.{floorOver, placeOver, roundedOver, offsetOf}
 use Rattle.bracket.specs.Bracket.{WholeOver, OffsetBracket}
 
 -- ---- the floor

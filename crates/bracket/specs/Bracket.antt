@@ -6,7 +6,7 @@ use mathlib.Core.List.{List}
 use lib.ListN.{length, take, drop}
 use lib.IntN.{ℤ, pos, natAbs, _+ℤ_}
 use Rattle.kinds.specs.Rounding.{modeOf, up, down}
-use Rattle.offset.specs.Offset.{offsetOf, DividedBy}
+use Rattle.cutter.specs.Offset.{offsetOf, DividedBy}
 use Rattle.cutter.specs.Map.{widthOf, depthOf}
 use Rattle.cutter.specs.Centre.{Point, Centre, centreOf}
 use Rattle.cutter.specs.List.{countOf, centreAt, listLength, listBytes}

@@ -17,17 +17,18 @@ use Rattle.words.specs.Splice.{splice}
 use Rattle.words.proofs.Splicing.{three-words}
 use Rattle.words.proofs.Differences.{abs-neg, signed-small}
 use Rattle.words.specs.declared.Signed.{Signed}
-use Rattle.offset.specs.Offset.{squaredLength, roundedOver, offsetOf}
+use Rattle.cutter.specs.Offset.{squaredLength, roundedOver, offsetOf}
 use Rattle.offset.specs.Inverse.{Ranges}
 use Rattle.cutter.specs.Map.{heightAt, acrossAt, alongAt}
 use Rattle.cutter.specs.Centre.{centreOf, pointAt, recordBytes}
 use Rattle.cutter.specs.Asked.{Sizes, Steps}
 use Rattle.cutter.specs.Map.{Inner}
-use Rattle.centres.specs.Normal.{NormalOf, Measured, offsetParts, offsetsOf, wordsBytes}
-use Rattle.centres.specs.declared.heights.Normal.{Normal}
-use Rattle.centres.specs.declared.points.Offsets.{Offsets}
-use Rattle.centres.specs.declared.points.Words.{Words}
-use Rattle.centres.proofs.Slopes.{square-most}
+use Rattle.normals.specs.Normal.{NormalOf, Measured}
+use Rattle.centres.specs.Words.{offsetParts, offsetsOf, wordsBytes}
+use Rattle.normals.specs.declared.Normal.{Normal}
+use Rattle.centres.specs.declared.Offsets.{Offsets}
+use Rattle.centres.specs.declared.Words.{Words}
+use Rattle.normals.proofs.Slopes.{square-most}
 
 -- ---- ranges
 

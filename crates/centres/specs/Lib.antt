@@ -1,1 +1,1 @@
-pub mod Normal
+pub mod Words

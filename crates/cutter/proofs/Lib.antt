@@ -1,2 +1,6 @@
 pub mod Questions
 pub mod Locality
+pub mod Lengths
+pub mod Accepted
+pub mod Rows
+pub mod Ties

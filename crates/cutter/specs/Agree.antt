@@ -5,7 +5,7 @@ use mathlib.Core.List.{List}
 use lib.IntN.{ℤ, natAbs}
 use Rattle.words.specs.Word.{wordAt}
 use Rattle.words.specs.Signed.{signed}
-use Rattle.offset.specs.Offset.{squaredLength, MultipleOf}
+use Rattle.cutter.specs.Offset.{squaredLength, MultipleOf}
 use Rattle.cutter.specs.Map.{Inner, widthOf, depthOf, stepOf, radiusOf}
 use Rattle.cutter.specs.Centre.{Point, pointAt}
 

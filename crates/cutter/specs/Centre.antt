@@ -5,7 +5,7 @@ use lib.IntN.{ℤ, pos, negℤ, _+ℤ_}
 use Rattle.kinds.specs.Rounding.{Mode}
 use Rattle.words.specs.Word.{wordBytes}
 use Rattle.words.specs.Signed.{wordOf}
-use Rattle.offset.specs.Offset.{squaredLength, offsetOf}
+use Rattle.cutter.specs.Offset.{squaredLength, offsetOf}
 use Rattle.cutter.specs.Map.{heightAt, acrossAt, alongAt}
 
 -- a point of the surface: its column and row, its height, and the differences dx and dy there

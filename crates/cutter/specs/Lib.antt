@@ -1,4 +1,5 @@
 pub mod Map
+pub mod Offset
 pub mod Centre
 pub mod List
 pub mod Call

@@ -4,18 +4,18 @@ use mathlib.Core.List.{List}
 use Prim.Native.Nat.{ℕ, _+_, _-_, _*_, _/_, _%_, _≤_, _<_}
 use native.Mathlib.Nat.{zero-add, mul-comm, mul-le-mul, mod-eq-of-lt, div-eq-of-lt, add-mul-div-right, add-mul-mod-self-right}
 use native.Mathlib.Omega.{arith}
-use lib.ListN.{length, length-append}
+use lib.ListN.{length}
 use mir.Val.{Fits}
 use mir.Syntax.{w64}
 use Rattle.kinds.specs.Rounding.{Mode}
 use Rattle.words.specs.Splice.{splice}
 use Rattle.words.specs.Joined.{joined}
-use Rattle.words.proofs.Splicing.{length-word}
 use Rattle.words.proofs.Runs.{Written, written-more, written-all, room-left, length-joined, joined-rows}
 use Rattle.cutter.specs.Centre.{centreOf, pointAt, recordBytes}
 use Rattle.cutter.specs.List.{centreAt, recordAt}
 use Rattle.cutter.specs.Asked.{trailerOf, Sizes, Ready}
 use Rattle.cutter.specs.Map.{Inner}
+use Rattle.cutter.proofs.Lengths.{length-record}
 use Rattle.listing.specs.Reply.{rowRecord, rowBytes}
 use Rattle.cutter.specs.declared.trailer.Trailer.{Trailer}
 
@@ -38,10 +38,6 @@ pub place-fits : (w d row n : ℕ) → Sizes w d → row < d - 2 → n < w - 2 �
 place-fits w d row n s h k = omega (arith, row-most w d row s h, s .narrow)
 
 -- ---- their records
-
-pub length-record : (mode : Mode) (m : List ℕ) (n : ℕ) → length (recordAt mode m n) ≡ 12
-unfolding recordAt recordBytes
-length-record mode m n = simp (length-append, length-word)
 
 length-row-record : (mode : Mode) (m : List ℕ) (k row n : ℕ) → length (rowRecord mode m k row n) ≡ 12
 unfolding rowRecord
@@ -110,6 +106,3 @@ module _ (mode : Mode) (m : List ℕ) (k rows : ℕ) (l₀ : List ℕ) where
   rows-put l row v h =
       written-all (rowBytes mode m k) 0 rows l₀ l row v h
       ∙ ap (λ (b : List ℕ). splice 0 b l₀) (joined-rows (recordAt mode m) k rows ∙ ap (joined (recordAt mode m)) (mul-comm rows k))
-
-pub length-records : (mode : Mode) (m : List ℕ) (n : ℕ) → length (joined (recordAt mode m) n) ≡ 12 * n
-length-records mode m n = length-joined (recordAt mode m) 12 (length-record mode m) n ∙ omega arith

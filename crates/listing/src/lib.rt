@@ -9,7 +9,7 @@ ghost use Rattle.cutter.specs.List.{countOf, recordAt, trailerBytes, listLength
 ghost use Rattle.cutter.specs.Call.{listRefusal, bufferAfter};
 ghost use Rattle.cutter.specs.Asked.{Halves, Ready};
 ghost use Rattle.listing.specs.Reply.{rowBytes, listReply};
-use centres::points::put_point;
+use centres::put_point;
 use cutter::door::first_no;
 use cutter::trailer::Trailer;
 use cutter::trailer::read_trailer;

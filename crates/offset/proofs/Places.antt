@@ -15,7 +15,7 @@ use mir.Val.{Fits}
 use Rattle.kinds.specs.Rounding.{Mode, Place, exact, away, placeBy, placeOf, roundedBy}
 use Rattle.numbers.proofs.Greatest.{greatest-is, squareFits, square-antitone}
 use Rattle.numbers.proofs.Ring.{v, #, _⊕_, _⊗_, _⊙_⊑_, nlin}
-use Rattle.offset.specs.Offset.{floorOver, placeOver, roundedOver}
+use Rattle.cutter.specs.Offset.{floorOver, placeOver, roundedOver}
 use Rattle.offset.specs.Inverse.{DoubledOver, Ranges, Sizes, radiusMost}
 use Rattle.offset.proofs.Start.{start-most}
 

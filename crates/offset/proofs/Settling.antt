@@ -11,7 +11,7 @@ use lib.Dec.{eqb, ltb}
 use mir.Syntax.{w64}
 use mir.Val.{Fits}
 use Rattle.kinds.specs.Rounding.{Mode, nearest, up, down, towardZero, modeOf, away, placeOf, roundedBy}
-use Rattle.offset.specs.Offset.{roundedOver}
+use Rattle.cutter.specs.Offset.{roundedOver}
 use Rattle.offset.specs.Inverse.{InverseOf, DoubledOver, Ranges, Sizes}
 use Rattle.offset.specs.Settled.{restOf, stepped, settledBy}
 use Rattle.offset.proofs.Start.{start-below, start-above, start-most}

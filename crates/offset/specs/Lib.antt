@@ -1,3 +1,2 @@
-pub mod Offset
 pub mod Inverse
 pub mod Settled

@@ -5,7 +5,7 @@ ghost use mathlib.Core.Path.{_≡_};
 ghost use mathlib.Core.Bool.{cond};
 ghost use Prim.Native.Nat.{_*_, _^_, _≤_, _<_};
 ghost use Rattle.kinds.specs.Rounding.{modeOf};
-ghost use Rattle.offset.specs.Offset.{roundedOver};
+ghost use Rattle.cutter.specs.Offset.{roundedOver};
 ghost use Rattle.offset.specs.Inverse.{InverseOf, Ranges, Sizes};
 ghost use Rattle.offset.specs.Settled.{restOf, settledBy};
 

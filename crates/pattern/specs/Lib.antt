@@ -1,3 +1,2 @@
 pub mod Parts
 pub mod Neighbour
-pub mod Special

@@ -1,7 +1,6 @@
-// Binary32 patterns: their fields, operands that need no arithmetic, and how a rounded answer is put together.
+// Binary32 patterns: their fields, and how a rounded answer is put together.
 pub mod neighbour;
 pub mod parts;
-pub mod special;
 
 // A pattern and the flags that its operation raises.
 pub struct Rounded {

@@ -13,7 +13,7 @@ use Rattle.cutter.specs.Map.{widthOf, depthOf}
 use Rattle.cutter.specs.List.{countOf, listLength}
 use Rattle.cutter.specs.Call.{listRefusal, listAnswer, bufferAfter}
 use Rattle.listing.specs.Reply.{listReply as listedReply}
-use Rattle.bracket.proofs.Accepted.{accepted-of}
+use Rattle.cutter.proofs.Accepted.{accepted-of}
 use Rattle.plate.specs.declared.ListReply.{ListReply}
 use Rattle.plate.specs.List.{listReply, ListCall}
 use Rattle.plate.specs.Packed.{packed}

@@ -3,5 +3,3 @@ pub mod Raw
 pub mod Binary32
 pub mod List
 pub mod Packed
-pub mod Bracket
-pub mod Table

@@ -121,7 +121,7 @@ pub fn reciprocal(y: u32) -> u32
     ensures { λ r. ⌜ r ≡ rawOf 7 3 Op·reciprocal y 0 ⌝ }
 {
     let i = (y >> 16) as u8;
-    let r = tables::factor(i);
+    let r = factors::factor(i);
     let d = reduce(y, r);
     let b = reciprocal_series(d.positive, d.magnitude);
     scaled(r * 1048576, b)
@@ -133,10 +133,10 @@ pub fn root(y: u32, p: u32) -> u32
     ensures { λ r. ⌜ r ≡ rawOf 7 3 Op·root y p ⌝ }
 {
     let i = (y >> 16) as u8;
-    let r = tables::factor(i);
+    let r = factors::factor(i);
     let d = reduce(y, r);
     let b = root_series(d.positive, d.magnitude);
-    scaled(tables::root(i, p as u8), b)
+    scaled(roots::root(i, p as u8), b)
 }
 
 // The inverse root of Y, or of 2Y where p is 1.
@@ -145,8 +145,8 @@ pub fn inverse_root(y: u32, p: u32) -> u32
     ensures { λ r. ⌜ r ≡ rawOf 7 3 Op·inverseRoot y p ⌝ }
 {
     let i = (y >> 16) as u8;
-    let r = tables::factor(i);
+    let r = factors::factor(i);
     let d = reduce(y, r);
     let b = inverse_root_series(d.positive, d.magnitude);
-    scaled(tables::inverse_root(i, p as u8), b)
+    scaled(inverse_roots::inverse_root(i, p as u8), b)
 }

@@ -1,7 +1,8 @@
 -- `listing::put_list` meets its contract: the records, and the trailer right behind them, are the list. Assumes nothing.
 use borrow.Author.Needs.{needs}
 use Rattle.cutter.proofs.Questions.{count-fits, room-fits, list-fits}
-use Rattle.listing.proofs.Whole.{sixteen-of, ready-of, sizes-of, width-of, depth-of, records-room, trailer-room, length-of, list-put}
+use Rattle.cutter.proofs.Accepted.{sixteen-of, ready-of, sizes-of, width-of, depth-of, records-room, trailer-room}
+use Rattle.listing.proofs.Whole.{length-of, list-put}
 use Rattle.listing.proofs.put_list.Statement.{statement}
 use Rattle.listing.proofs.put_list.Tie as tie
 

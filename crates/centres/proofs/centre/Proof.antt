@@ -1,0 +1,59 @@
+-- `centres::centre` meets its contract: the words are those of the map point plus the offsets. Assumes nothing.
+use borrow.Author.Needs.{needs}
+use Rattle.centres.proofs.Centres.{coordinate-fits, coordinate-small, centre-is}
+use Rattle.normals.proofs.Slopes.{place-in, place-fits, line-fits}
+use Rattle.centres.proofs.centre.Statement.{statement}
+use Rattle.centres.proofs.centre.Tie as tie
+
+normal-at-requires : tie.Need-normal-at-requires
+normal-at-requires c κs = search needs
+
+offsets-of-requires : tie.Need-offsets-of-requires
+offsets-of-requires c κs = search needs
+
+mul-height-word : tie.Need-mul-height-word
+mul-height-word c = search line-fits
+
+add-height-word : tie.Need-add-height-word
+add-height-word c = search (place-fits, needs)
+
+mul-height-word-2 : tie.Need-mul-height-word-2
+mul-height-word-2 c = search needs
+
+height-word-requires : tie.Need-height-word-requires
+height-word-requires c κs = (search (place-in, needs), search needs)
+
+mul-lifted : tie.Need-mul-lifted
+mul-lifted c = search coordinate-fits
+
+lifted-requires : tie.Need-lifted-requires
+lifted-requires c κs = (search coordinate-small, search needs)
+
+mul-lifted-2 : tie.Need-mul-lifted-2
+mul-lifted-2 c = search coordinate-fits
+
+lifted-requires-2 : tie.Need-lifted-requires-2
+lifted-requires-2 c κs = (search coordinate-small, search needs)
+
+lifted-requires-3 : tie.Need-lifted-requires-3
+lifted-requires-3 c κs = search needs
+
+returns : tie.Need-returns
+returns c = search centre-is
+
+pub centre-spec : {M : Type 1} → statement M
+centre-spec =
+    tie.close
+    (tie.spec
+    normal-at-requires
+    offsets-of-requires
+    mul-height-word
+    add-height-word
+    mul-height-word-2
+    height-word-requires
+    mul-lifted
+    lifted-requires
+    mul-lifted-2
+    lifted-requires-2
+    lifted-requires-3
+    returns)

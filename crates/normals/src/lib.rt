@@ -1,0 +1,66 @@
+// Heights of a map and the normal at a point.
+ghost use mathlib.Core.Path.{_≡_};
+ghost use Prim.Native.Nat.{_+_, _-_, _*_, _≤_, _<_};
+ghost use lib.IntN.{_-ℤ_};
+ghost use Rattle.words.specs.Word.{wordAt};
+ghost use Rattle.words.specs.Signed.{signed};
+ghost use Rattle.words.specs.Parts.{partsOf};
+ghost use Rattle.cutter.specs.Map.{acrossAt, alongAt};
+ghost use Rattle.cutter.specs.Asked.{Heights, Ready};
+ghost use Rattle.cutter.specs.Map.{Inner};
+ghost use Rattle.normals.specs.Normal.{NormalOf, Measured};
+use cutter::trailer::Trailer;
+use words::Signed;
+use words::difference;
+use words::raised;
+use words::word_at;
+
+// The word of the height at place i, counted row by row.
+pub fn height_word(map: &[u8], i: usize, count: usize) -> u64
+    requires { ⌜ i < count ⌝ }
+    requires { ⌜ Heights (now map) count ⌝ }
+    ensures { λ r. ⌜ (r ≡ wordAt (now (map .entry)) (4 * i)) × (r < 4294967296) ⌝ }
+{
+    word_at(map, 4 * i)
+}
+
+// The height at place i less that at place j.
+fn slope(map: &[u8], i: usize, j: usize, count: usize) -> Signed
+    requires { ⌜ (i < count) × (j < count) ⌝ }
+    requires { ⌜ Heights (now map) count ⌝ }
+    ensures { λ r. ⌜ (r ≡ partsOf (signed (wordAt (now (map .entry)) (4 * i)) -ℤ signed (wordAt (now (map .entry)) (4 * j)))) × (r .magnitude ≤ 100000) ⌝ }
+{
+    difference(
+        raised(height_word(map, i, count)),
+        raised(height_word(map, j, count)),
+    )
+}
+
+// The normal by its first two components, −dx and −dy, and its squared length.
+pub struct Normal {
+    pub x: Signed,
+    pub y: Signed,
+    pub squared: u64,
+}
+
+// The normal at an inner point.
+pub fn normal_at(map: &[u8], trailer: Trailer, column: usize, row: usize) -> Normal
+    requires { ⌜ Ready (now map) trailer ⌝ }
+    requires { ⌜ Inner (trailer .width) (trailer .depth) column row ⌝ }
+    ensures { λ r. ⌜ NormalOf (acrossAt (now (map .entry)) (trailer .width) column row) (alongAt (now (map .entry)) (trailer .width) column row) r × Measured r (trailer .step) ⌝ }
+{
+    let width = trailer.width;
+    let count = width * trailer.depth;
+    let place = row * width + column;
+    let x = slope(map, place - 1, place + 1, count);
+    let y = slope(map, place - width, place + width, count);
+    let squared = squared_length(x.magnitude, y.magnitude, trailer.step);
+    Normal { x, y, squared }
+}
+
+fn squared_length(x: u64, y: u64, step: u64) -> u64
+    requires { ⌜ (x ≤ 100000) × (y ≤ 100000) × (step ≤ 10000) ⌝ }
+    ensures { λ r. ⌜ r ≡ x * x + y * y + 4 * step * step ⌝ }
+{
+    x * x + y * y + 4 * step * step
+}

@@ -1,0 +1,55 @@
+-- DEMAND 3, of the calls themselves. Down is rounding 2 and up is rounding 1. Nothing is assumed of the two statuses or of the two lent
+-- buffers. Assumes nothing.
+use mathlib.Core.Path.{_≡_, ap, subst₂, sym, _∙_}
+use mathlib.Core.List.{List}
+use mathlib.Core.Bool.{_&&_}
+use Prim.Native.Nat.{ℕ, _<_}
+use lib.Dec.{T}
+use lib.ListN.{length, take}
+use Rattle.kinds.specs.Operation.{isOperation}
+use Rattle.kinds.specs.Rounding.{isRounding}
+use Rattle.kinds.specs.Question.{ask}
+use Rattle.ieee.specs.Format.{binary32, infinity}
+use Rattle.ieee.specs.Call.{binary32Refusal}
+use Rattle.ieee.proofs.Bracket.{call-bracket}
+use Rattle.cutter.specs.List.{listLength}
+use Rattle.cutter.specs.Call.{listRefusal, listAnswer, bufferAfter}
+use Rattle.bracket.proofs.Entries.{list-held}
+use Rattle.bracket.proofs.Bracket.{list-bracket}
+use Rattle.plate.specs.declared.Status.{Status}
+use Rattle.plate.specs.declared.Binary32Reply.{Binary32Reply}
+use Rattle.plate.specs.declared.ListReply.{ListReply}
+use Rattle.plate.specs.Binary32.{binary32Call}
+use Rattle.plate.specs.List.{listReply, ListCall}
+use Rattle.theorems.specs.Bracket.{Binary32Bracket, ListsBracket}
+use Rattle.plate.proofs.Questions.{yes}
+
+-- two accepted calls with the same operation and the same positive finite operand, whatever status each is given
+pub binary32-bracket : (operation operand : ℕ) (a b : Status) (lower upper : Binary32Reply)
+    → lower ≡ binary32Call operation 2 operand a
+    → upper ≡ binary32Call operation 1 operand b
+    → lower .refusal ≡ 0
+    → upper .refusal ≡ 0
+    → 0 < operand
+    → operand < infinity binary32
+    → Binary32Bracket operation operand lower upper
+unfolding binary32Refusal
+binary32-bracket operation operand a b lower upper e f r s p l =
+    let known : T (isOperation operation) =
+    yes (isOperation operation) 0 (ask (isRounding 2) 2 0) (sym (ap (λ (x : Binary32Reply). x .refusal) e) ∙ r) .0 in
+    let k = call-bracket operation known operand p l in
+    rw (e, f) (record { equal = k .equal; next = k .next-unless })
+
+-- two accepted calls with the same map, whatever the two lent buffers held
+pub list-calls-bracket : (m a b lowest uppermost : List ℕ) (lower upper : ListReply)
+    → ListCall 2 m a lower lowest
+    → ListCall 1 m b upper uppermost
+    → lower .refusal ≡ 0
+    → upper .refusal ≡ 0
+    → ListsBracket m lower upper lowest uppermost
+list-calls-bracket m a b lowest uppermost lower upper c d r s =
+    let ra : listRefusal 2 m (length a) ≡ 0 = sym (ap (λ (x : ListReply). x .refusal) (c .answers)) ∙ r in
+    let rb : listRefusal 1 m (length b) ≡ 0 = sym (ap (λ (x : ListReply). x .refusal) (d .answers)) ∙ s in
+    let k = list-bracket m a b ra rb in
+    rw (c .answers, d .answers, c .leaves, d .leaves, list-held 2 m a ra .reported, list-held 1 m b rb .reported)
+    (record { equal = k .equal; next = k .next })

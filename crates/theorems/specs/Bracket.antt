@@ -1,0 +1,28 @@
+-- Demand 3 of two calls, one rounded down and one up. Assumes nothing.
+use mathlib.Core.Path.{_≡_}
+use mathlib.Core.Logic.{_↔_}
+use mathlib.Core.List.{List}
+use Prim.Native.Nat.{ℕ, suc, _<_}
+use lib.ListN.{take}
+use lib.IntN.{ℤ, pos, _+ℤ_}
+use Rattle.kinds.specs.Operation.{opOf}
+use Rattle.ieee.specs.Format.{binary32, magnitudeOf}
+use Rattle.ieee.specs.Agree.{Agree}
+use Rattle.cutter.specs.Map.{widthOf, depthOf}
+use Rattle.cutter.specs.List.{countOf}
+use Rattle.cutter.specs.Agree.{ExactMap, entryAt}
+use Rattle.plate.specs.declared.Binary32Reply.{Binary32Reply}
+use Rattle.plate.specs.declared.ListReply.{ListReply}
+
+-- two answers to one operand: equal exactly where its value agrees, and otherwise the upper pattern is the next above the lower
+pub record Binary32Bracket (operation operand : ℕ) (lower upper : Binary32Reply) : Type 0 where
+  pub equal : (lower .bits ≡ upper .bits) ↔ Agree binary32 (opOf operation) (magnitudeOf binary32 operand)
+  pub next : (Agree binary32 (opOf operation) (magnitudeOf binary32 operand) → ⊥) → upper .bits ≡ suc (lower .bits)
+
+-- two lists of the map m, each the bytes that a call left in its buffer, over the length that it reported: equal byte for byte exactly
+-- where the map is exact at every inner point; of two entries that differ, the upper is larger by one micrometre
+pub record ListsBracket (m : List ℕ) (lower upper : ListReply) (lowest uppermost : List ℕ) : Type 0 where
+  pub equal : (take (lower .length) lowest ≡ take (upper .length) uppermost) ↔ ExactMap m
+  pub next : (n j : ℕ) → n < countOf (widthOf m) (depthOf m) → j < 3
+      → (entryAt lowest n j ≡ entryAt uppermost n j → ⊥)
+      → entryAt uppermost n j ≡ entryAt lowest n j +ℤ pos 1

@@ -1,0 +1,2 @@
+pub mod Bracket
+pub mod Table
