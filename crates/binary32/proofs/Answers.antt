@@ -13,7 +13,7 @@ use Rattle.ieee.specs.Format.{binary32, infinity, magnitudeOf}
 use Rattle.ieee.specs.Answer.{Answer, signed, toFinite, answerTo, answerOf}
 use Rattle.ieee.proofs.Rounding.{rounded-is, flags-are}
 use Rattle.pattern.specs.Parts.{patternOf, PartsOf, Ranges}
-use Rattle.binary32.specs.Operand.{Ordinary}
+use Rattle.floors.specs.Operand.{Ordinary}
 use Rattle.pattern.specs.Neighbour.{roundedAnswer, takenFrom, roundedFrom}
 use Rattle.binary32.specs.Below.{BelowResult}
 use Rattle.special.specs.Special.{isSpecialAt, isSpecial, specialAt, specialTo}

@@ -1,5 +1,3 @@
-pub mod Magnitudes
-pub mod Reaching
 pub mod Scales
 pub mod Results
 pub mod Answers

@@ -17,14 +17,14 @@ use Rattle.ieee.specs.Format.{binary32, magnitudeOf}
 use Rattle.ieee.specs.Guarded.{Guarded, Below}
 use Rattle.ieee.proofs.Guarded.{guarded-below}
 use Rattle.pattern.specs.Parts.{patternOf}
-use Rattle.binary32.specs.Operand.{Scaling}
-use Rattle.binary32.specs.Floor.{targetOf, Reached}
+use Rattle.floors.specs.Operand.{Scaling}
+use Rattle.floors.specs.Floor.{targetOf, Reached}
 use Rattle.pattern.specs.Neighbour.{neighbourOf}
 use Rattle.binary32.specs.Below.{BelowResult}
-use Rattle.binary32.specs.declared.operand.Scaled.{Scaled}
-use Rattle.binary32.specs.declared.floor.Partial.{Partial}
+use Rattle.floors.specs.declared.operand.Scaled.{Scaled}
+use Rattle.floors.specs.declared.floor.Partial.{Partial}
 use Rattle.pattern.specs.declared.neighbour.Neighbour.{Neighbour}
-use Rattle.binary32.proofs.Reaching.{quotient-small}
+use Rattle.floors.proofs.Reaching.{quotient-small}
 use Rattle.binary32.proofs.Scales.{reciprocal-guarded, root-guarded, inverse-guarded}
 
 -- the raw answer is near

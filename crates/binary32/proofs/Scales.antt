@@ -15,9 +15,9 @@ use Rattle.ieee.specs.Format.{binary32, unitOf}
 use Rattle.ieee.specs.Rounded.{side, limit, twice}
 use Rattle.ieee.specs.Guarded.{Guarded}
 use Rattle.ieee.proofs.Neighbours.{side-rising}
-use Rattle.binary32.specs.Floor.{targetOf, Reached}
-use Rattle.binary32.specs.declared.floor.Partial.{Partial}
-use Rattle.binary32.proofs.Reaching.{quotient-small}
+use Rattle.floors.specs.Floor.{targetOf, Reached}
+use Rattle.floors.specs.declared.floor.Partial.{Partial}
+use Rattle.floors.proofs.Reaching.{quotient-small}
 
 -- two orders that differ by positive factors
 module _ (a b : ℕ) {m n m′ n′ : ℕ} (pos-a : 0 < a) (pos-b : 0 < b) (em : a * m ≡ b * m′) (en : a * n ≡ b * n′) where

@@ -1,3 +1,1 @@
-pub mod Operand
-pub mod Floor
 pub mod Below

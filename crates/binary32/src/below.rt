@@ -1,9 +1,9 @@
 // The pattern below the exact result of each operation on a positive finite operand, through the raw unit.
 ghost use Rattle.kinds.specs.Operation.{opOf, reciprocal as Op·reciprocal, root as Op·root, inverseRoot as Op·inverseRoot};
-ghost use Rattle.binary32.specs.Operand.{Ordinary};
+ghost use Rattle.floors.specs.Operand.{Ordinary};
 ghost use Rattle.binary32.specs.Below.{BelowResult};
-use crate::floor;
-use crate::operand::scale;
+use floors::floor;
+use floors::operand::scale;
 use kinds::Operation;
 use pattern::neighbour::Neighbour;
 use pattern::neighbour::lower;

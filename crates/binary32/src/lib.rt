@@ -1,10 +1,8 @@
 // The binary32 unit: reciprocal, root and inverse root of a pattern, correctly rounded, with flags.
 mod below;
-mod floor;
-mod operand;
 
 ghost use mathlib.Core.Path.{_≡_};
-ghost use Rattle.kinds.specs.Operation.{opOf, reciprocal as Op·reciprocal, root as Op·root, inverseRoot as Op·inverseRoot};
+ghost use Rattle.kinds.specs.Operation.{opOf};
 ghost use Rattle.kinds.specs.Rounding.{modeOf};
 ghost use Rattle.ieee.specs.Format.{binary32};
 ghost use Rattle.ieee.specs.Answer.{answerOf};
@@ -27,22 +25,4 @@ pub fn answer(operation: Operation, rounding: Rounding, bits: u32) -> Rounded
         return special(operation, x);
     }
     round(rounding, x.sign, below(operation, x.exponent, x.fraction))
-}
-
-pub fn reciprocal(rounding: Rounding, bits: u32) -> Rounded
-    ensures { λ r. ⌜ r ≡ roundedAnswer (answerOf binary32 Op·reciprocal (modeOf (rounding .0)) bits) ⌝ }
-{
-    answer(Operation::RECIPROCAL, rounding, bits)
-}
-
-pub fn root(rounding: Rounding, bits: u32) -> Rounded
-    ensures { λ r. ⌜ r ≡ roundedAnswer (answerOf binary32 Op·root (modeOf (rounding .0)) bits) ⌝ }
-{
-    answer(Operation::ROOT, rounding, bits)
-}
-
-pub fn inverse_root(rounding: Rounding, bits: u32) -> Rounded
-    ensures { λ r. ⌜ r ≡ roundedAnswer (answerOf binary32 Op·inverseRoot (modeOf (rounding .0)) bits) ⌝ }
-{
-    answer(Operation::INVERSE_ROOT, rounding, bits)
 }

@@ -1,8 +1,8 @@
--- `binary32::floor::step` meets its contract: the step is taken or not. Assumes nothing.
+-- `floors::floor::step` meets its contract: the step is taken or not. Assumes nothing.
 use borrow.Author.Needs.{needs}
-use Rattle.binary32.proofs.Reaching.{stepped-up, stepped-none}
-use Rattle.binary32.proofs.floor.step.Statement.{statement}
-use Rattle.binary32.proofs.floor.step.Tie as tie
+use Rattle.floors.proofs.Reaching.{stepped-up, stepped-none}
+use Rattle.floors.proofs.floor.step.Statement.{statement}
+use Rattle.floors.proofs.floor.step.Tie as tie
 
 add-t4 : tie.Need-add-t4
 add-t4 c = search needs

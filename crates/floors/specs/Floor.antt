@@ -5,7 +5,7 @@ use Prim.Native.Nat.{ℕ, suc, _+_, _*_, _-_, _%_, _^_, _≤_, _<_}
 use lib.Dec.{leb}
 use Rattle.kinds.specs.Operation.{Op, reciprocal, root, inverseRoot}
 use Rattle.ieee.specs.Rounded.{side}
-use Rattle.binary32.specs.declared.floor.Partial.{Partial}
+use Rattle.floors.specs.declared.floor.Partial.{Partial}
 
 -- The floor is the greatest q with y·q ≤ 2^48, q² ≤ y·2^(25 + p), or q²·y ≤ 2^(73 − p): `side` at most the target
 abbrev pub targetOf : Op → ℕ → ℕ → ℕ

@@ -15,8 +15,8 @@ use Rattle.kinds.specs.Operation.{Op, reciprocal, root, inverseRoot}
 use Rattle.ieee.specs.Rounded.{side}
 use Rattle.ieee.proofs.Neighbours.{side-rising}
 use Rattle.significand.specs.Distance.{Near, Under, Over, distanceOf}
-use Rattle.binary32.specs.Floor.{targetOf, strideOf, spreadOf, stepsOf, Reached, Stepped, remainderOf}
-use Rattle.binary32.specs.declared.floor.Partial.{Partial}
+use Rattle.floors.specs.Floor.{targetOf, strideOf, spreadOf, stepsOf, Reached, Stepped, remainderOf}
+use Rattle.floors.specs.declared.floor.Partial.{Partial}
 
 -- the start: the raw answer less its distance, in the floor's steps
 abbrev pub startOf : Op → ℕ → ℕ

@@ -1,10 +1,10 @@
--- `binary32::floor::reciprocal` meets its contract: the start is at or below the floor, and three steps lead to it. Assumes nothing.
+-- `floors::floor::reciprocal` meets its contract: the start is at or below the floor, and three steps lead to it. Assumes nothing.
 use native.Mathlib.Omega.{arith}
 use borrow.Author.Needs.{needs}
 use Rattle.kinds.specs.Operation.{reciprocal}
-use Rattle.binary32.proofs.Reaching.{started-low, reciprocal-reached}
-use Rattle.binary32.proofs.floor.reciprocal.Statement.{statement}
-use Rattle.binary32.proofs.floor.reciprocal.Tie as tie
+use Rattle.floors.proofs.Reaching.{started-low, reciprocal-reached}
+use Rattle.floors.proofs.floor.reciprocal.Statement.{statement}
+use Rattle.floors.proofs.floor.reciprocal.Tie as tie
 
 sub-q : tie.Need-sub-q
 sub-q c = search needs

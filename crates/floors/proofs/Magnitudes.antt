@@ -7,8 +7,8 @@ use lib.Pow.{pow-add}
 use Rattle.ieee.specs.Format.{binary32, magnitudeOf}
 use Rattle.ieee.proofs.Neighbours.{magnitude-fields}
 use Rattle.pattern.specs.Parts.{patternOf}
-use Rattle.binary32.specs.Operand.{Ordinary, Scaling}
-use Rattle.binary32.specs.declared.operand.Scaled.{Scaled}
+use Rattle.floors.specs.Operand.{Ordinary, Scaling}
+use Rattle.floors.specs.declared.operand.Scaled.{Scaled}
 
 -- the fraction x of a subnormal operand, shifted up to y while the exponent has come down from 23 to j
 pub record Shifted (x y j : ℕ) : Type 0 where

@@ -3,7 +3,7 @@ ghost use mathlib.Core.Path.{_≡_};
 ghost use Prim.Native.Nat.{_+_, _*_, _^_, _≤_, _<_};
 ghost use Rattle.kinds.specs.Operation.{reciprocal as Op·reciprocal, root as Op·root, inverseRoot as Op·inverseRoot};
 ghost use Rattle.significand.specs.Distance.{Near};
-ghost use Rattle.binary32.specs.Floor.{Reached, Stepped, targetOf, remainderOf};
+ghost use Rattle.floors.specs.Floor.{Reached, Stepped, targetOf, remainderOf};
 
 // A number at or below the floor, and what its product leaves of the target.
 pub struct Partial {

@@ -1,10 +1,10 @@
--- `binary32::floor::inverse_root` meets its contract: the start is at or below the floor, and two steps lead to it. Assumes nothing.
+-- `floors::floor::inverse_root` meets its contract: the start is at or below the floor, and two steps lead to it. Assumes nothing.
 use native.Mathlib.Omega.{arith}
 use borrow.Author.Needs.{needs}
 use Rattle.kinds.specs.Operation.{inverseRoot}
-use Rattle.binary32.proofs.Reaching.{fits-product, start-small, inverse-root-reached}
-use Rattle.binary32.proofs.floor.inverse_root.Statement.{statement}
-use Rattle.binary32.proofs.floor.inverse_root.Tie as tie
+use Rattle.floors.proofs.Reaching.{fits-product, start-small, inverse-root-reached}
+use Rattle.floors.proofs.floor.inverse_root.Statement.{statement}
+use Rattle.floors.proofs.floor.inverse_root.Tie as tie
 
 sub-q : tie.Need-sub-q
 sub-q c = search needs

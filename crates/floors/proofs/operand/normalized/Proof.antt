@@ -1,8 +1,8 @@
--- `binary32::operand::normalized` meets its contract: the invariant says that the fraction times 2^23 is y × 2^j, and the measure is j. Assumes nothing.
+-- `floors::operand::normalized` meets its contract: the invariant says that the fraction times 2^23 is y × 2^j, and the measure is j. Assumes nothing.
 use native.Mathlib.Omega.{arith}
-use Rattle.binary32.proofs.Magnitudes.{Shifted, shifted-none, shifts-left, shifts-down, shifted-more, shifted-all}
-use Rattle.binary32.proofs.operand.normalized.Statement.{statement}
-use Rattle.binary32.proofs.operand.normalized.Tie as tie
+use Rattle.floors.proofs.Magnitudes.{Shifted, shifted-none, shifts-left, shifts-down, shifted-more, shifted-all}
+use Rattle.floors.proofs.operand.normalized.Statement.{statement}
+use Rattle.floors.proofs.operand.normalized.Tie as tie
 
 abbrev Inv-loop : tie.InvT-loop
 Inv-loop fraction y₀ j₀ y j = Shifted fraction y j

@@ -1,10 +1,10 @@
--- `binary32::floor::root` meets its contract: the start is at or below the floor, and one step leads to it. Assumes nothing.
+-- `floors::floor::root` meets its contract: the start is at or below the floor, and one step leads to it. Assumes nothing.
 use native.Mathlib.Omega.{arith}
 use borrow.Author.Needs.{needs}
 use Rattle.kinds.specs.Operation.{root}
-use Rattle.binary32.proofs.Reaching.{started-low, root-target, root-shifted, root-reached}
-use Rattle.binary32.proofs.floor.root.Statement.{statement}
-use Rattle.binary32.proofs.floor.root.Tie as tie
+use Rattle.floors.proofs.Reaching.{started-low, root-target, root-shifted, root-reached}
+use Rattle.floors.proofs.floor.root.Statement.{statement}
+use Rattle.floors.proofs.floor.root.Tie as tie
 
 sub-q : tie.Need-sub-q
 sub-q c = search needs

@@ -2,7 +2,7 @@
 use mathlib.Core.Path.{_≡_}
 use Prim.Native.Nat.{ℕ, _*_, _^_, _≤_, _<_}
 use Rattle.pattern.specs.Parts.{patternOf}
-use Rattle.binary32.specs.declared.operand.Scaled.{Scaled}
+use Rattle.floors.specs.declared.operand.Scaled.{Scaled}
 
 -- the fields of a magnitude that is finite and not zero
 pub record Ordinary (e x : ℕ) : Type 0 where

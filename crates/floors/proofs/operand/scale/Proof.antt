@@ -1,8 +1,8 @@
--- `binary32::operand::scale` meets its contract: a subnormal operand is normalized, and a normal one has its leading one. Assumes nothing.
+-- `floors::operand::scale` meets its contract: a subnormal operand is normalized, and a normal one has its leading one. Assumes nothing.
 use borrow.Author.Needs.{needs}
-use Rattle.binary32.proofs.Magnitudes.{subnormal-scaled, normal-scaled}
-use Rattle.binary32.proofs.operand.scale.Statement.{statement}
-use Rattle.binary32.proofs.operand.scale.Tie as tie
+use Rattle.floors.proofs.Magnitudes.{subnormal-scaled, normal-scaled}
+use Rattle.floors.proofs.operand.scale.Statement.{statement}
+use Rattle.floors.proofs.operand.scale.Tie as tie
 
 normalized-requires : tie.Need-normalized-requires
 normalized-requires c κs = search needs

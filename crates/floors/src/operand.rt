@@ -2,7 +2,7 @@
 ghost use Prim.Native.Nat.{_<_};
 ghost use Rattle.ieee.specs.Format.{binary32, magnitudeOf};
 ghost use Rattle.pattern.specs.Parts.{patternOf};
-ghost use Rattle.binary32.specs.Operand.{Ordinary, Scaling};
+ghost use Rattle.floors.specs.Operand.{Ordinary, Scaling};
 
 // A magnitude, counted in units of 2^-149: times 2^23 it is significand × 2^exponent, and the significand has 24 bits.
 pub struct Scaled {

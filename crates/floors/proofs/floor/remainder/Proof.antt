@@ -1,11 +1,11 @@
--- `binary32::floor::remainder` meets its contract: the lower bits of a product come from its factor by halves. Assumes nothing.
+-- `floors::floor::remainder` meets its contract: the lower bits of a product come from its factor by halves. Assumes nothing.
 use Prim.Native.Nat.{_*_, _%_, _^_}
 use native.Mathlib.Nat.{mul-le-mul}
 use native.Mathlib.Omega.{arith}
 use borrow.Author.Needs.{needs}
-use Rattle.binary32.proofs.Reaching.{product-small, fits-product, remainder-is}
-use Rattle.binary32.proofs.floor.remainder.Statement.{statement}
-use Rattle.binary32.proofs.floor.remainder.Tie as tie
+use Rattle.floors.proofs.Reaching.{product-small, fits-product, remainder-is}
+use Rattle.floors.proofs.floor.remainder.Statement.{statement}
+use Rattle.floors.proofs.floor.remainder.Tie as tie
 
 mul-square : tie.Need-mul-square
 mul-square c = fits-product 26 26 (search needs) (search needs) (search needs)
