@@ -1,13 +1,13 @@
--- What a list call that answers 0 knows of its map and its buffer. Assumes nothing.
-use mathlib.Core.Path.{_≡_, refl}
-use mathlib.Core.Bool.{Bool, true, false, _&&_}
+-- What a list call that is not refused knows of its map and its buffer. Assumes nothing.
+use mathlib.Core.Path.{_≡_}
+use mathlib.Core.Bool.{_&&_}
 use mathlib.Core.List.{List}
-use Prim.Native.Nat.{ℕ, suc, _+_, _-_, _*_, _≤_}
+use Prim.Native.Nat.{ℕ, _+_, _-_, _*_, _≤_}
 use native.Mathlib.Omega.{arith}
 use borrow.Author.Tests.{leb-true, eqb-true}
 use lib.Dec.{leb, eqb}
 use lib.ListN.{length}
-use Rattle.kinds.specs.Question.{ask}
+use Rattle.kinds.proofs.Questions.{yes, sure}
 use Rattle.kinds.specs.Rounding.{isRounding}
 use Rattle.words.specs.Word.{readsAt}
 use Rattle.cutter.specs.Map.{plt1, trailerAt, distanceOf, widthOf, depthOf, stepOf, radiusOf}
@@ -16,14 +16,6 @@ use Rattle.cutter.specs.Call.{within, heightsWithin, listRefusal}
 use Rattle.cutter.specs.Asked.{trailerOf, Sizes, Steps, Heights, Ready}
 use Rattle.cutter.specs.declared.trailer.Trailer.{Trailer}
 use Rattle.cutter.proofs.Questions.{both-are, sizes-are, steps-are, heights-small}
-
-ask-zero : (t : Bool) (n rest : ℕ) → ask t (suc n) rest ≡ 0 → (t ≡ true) × (rest ≡ 0)
-unfolding ask
-ask-zero true n rest e = (refl, e)
-ask-zero false n rest e = absurd (never n e)
-  where
-    never : (n : ℕ) → suc n ≡ 0 → ⊥
-    never n e = omega arith
 
 -- every question answered "yes"
 pub record Accepted (m : List ℕ) (room : ℕ) : Type 0 where
@@ -39,23 +31,23 @@ unfolding listRefusal
 accepted-of rounding m room e =
     let w : ℕ = widthOf m in
     let d : ℕ = depthOf m in
-    let a2 = ask-zero (isRounding rounding) 1 _ e in
-    let a5 = ask-zero (leb 16 (length m)) 4 _ (a2 .1) in
-    let a6 = ask-zero (readsAt m (trailerAt m) plt1) 5 _ (a5 .1) in
-    let a7 = ask-zero (within 3 64 w && within 3 64 d) 6 _ (a6 .1) in
-    let a8 = ask-zero (within 1 10000 (stepOf m) && within 1 12500 (radiusOf m)) 7 _ (a7 .1) in
-    let a9 = ask-zero (eqb (distanceOf m) (4 * (w * d)) && eqb (length m) (4 * (w * d) + 16)) 8 _ (a8 .1) in
-    let a10 = ask-zero (heightsWithin m (w * d)) 9 _ (a9 .1) in
-    let a11 = ask-zero (leb (listLength m) room) 10 0 (a10 .1) in
-    let nine = both-are (eqb (distanceOf m) (4 * (w * d))) (eqb (length m) (4 * (w * d) + 16)) (a9 .0) in
+    let a2 = yes (isRounding rounding) 1 _ e in
+    let a5 = yes (leb 16 (length m)) 4 _ (a2 .1) in
+    let a6 = yes (readsAt m (trailerAt m) plt1) 5 _ (a5 .1) in
+    let a7 = yes (within 3 64 w && within 3 64 d) 6 _ (a6 .1) in
+    let a8 = yes (within 1 10000 (stepOf m) && within 1 12500 (radiusOf m)) 7 _ (a7 .1) in
+    let a9 = yes (eqb (distanceOf m) (4 * (w * d)) && eqb (length m) (4 * (w * d) + 16)) 8 _ (a8 .1) in
+    let a10 = yes (heightsWithin m (w * d)) 9 _ (a9 .1) in
+    let a11 = yes (leb (listLength m) room) 10 0 (a10 .1) in
+    let nine = both-are (eqb (distanceOf m) (4 * (w * d))) (eqb (length m) (4 * (w * d) + 16)) (sure _ (a9 .0)) in
     let long : length m ≡ 4 * (w * d) + 16 = eqb-true (length m) (4 * (w * d) + 16) (nine .1) in
     record {
-      sixteen = leb-true 16 (length m) (a5 .0);
-      sizes = sizes-are w d (a7 .0);
-      steps = steps-are (stepOf m) (radiusOf m) (a8 .0);
+      sixteen = leb-true 16 (length m) (sure _ (a5 .0));
+      sizes = sizes-are w d (sure _ (a7 .0));
+      steps = steps-are (stepOf m) (radiusOf m) (sure _ (a8 .0));
       long = long;
-      heights = record { held = omega arith; small = heights-small m (w * d) (a10 .0) };
-      held = leb-true (listLength m) room (a11 .0);
+      heights = record { held = omega arith; small = heights-small m (w * d) (sure _ (a10 .0)) };
+      held = leb-true (listLength m) room (sure _ (a11 .0));
     }
 
 -- the same of the trailer as it is read

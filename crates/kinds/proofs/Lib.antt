@@ -1,3 +1,4 @@
 pub mod Neighbours
 pub mod Directed
 pub mod Ties
+pub mod Questions

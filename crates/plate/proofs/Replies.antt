@@ -6,10 +6,10 @@ use borrow.Author.Tests.{eq-eqb, ne-eqb}
 use Rattle.kinds.specs.Operation.{opOf, reciprocal, root, inverseRoot}
 use Rattle.significand.specs.Steps.{rawOf}
 use Rattle.significand.specs.Call.{rawRefusal, rawAnswer}
+use Rattle.significand.proofs.Accepted.{accepted}
 use Rattle.plate.specs.declared.RawReply.{RawReply}
 use Rattle.plate.specs.Raw.{rawCall}
 use Rattle.plate.specs.Packed.{packed}
-use Rattle.plate.proofs.Questions.{accepted}
 
 module _ (operation y p g : ℕ) where
   pub reciprocal-answer : rawRefusal operation y p ≡ 0 → operation ≡ 1 → g ≡ rawOf 7 3 reciprocal y 0 → g ≡ rawOf 7 3 (opOf operation) y p

@@ -9,6 +9,7 @@ use borrow.Author.Tests.{lt-ltb, le-ltb, le-leb, lt-leb, eq-eqb, ne-eqb}
 use lib.Dec.{eqb, ltb, leb}
 use Rattle.kinds.specs.Operation.{Op, reciprocal, root, inverseRoot, opOf, isReciprocal}
 use Rattle.kinds.specs.Flag.{invalid}
+use Rattle.kinds.proofs.Questions.{reciprocal-named}
 use Rattle.ieee.specs.Format.{binary32, infinity, quietNaN}
 use Rattle.ieee.specs.Answer.{Answer, answer, signed, toNaN, toZero, toInfinity}
 use Rattle.pattern.specs.Parts.{patternOf, Ranges}
@@ -63,15 +64,6 @@ module _ (x : Parts) (h : Ranges x) where
       (λ l. rw (ne-eqb (x .exponent) 255 (λ e. omega arith), lt-leb (infinity binary32) (patternOf (x .exponent) (x .fraction)) (omega (arith, h))))
       (λ l. rw (eq-eqb (x .exponent) 255 (omega (arith, h)), le-leb (infinity binary32) (patternOf (x .exponent) (x .fraction)) (omega (arith, h))))
 
-  -- which operation it is, by its number
-  reciprocal-is : (n : ℕ) → eqb n 1 ≡ isReciprocal (opOf n)
-  reciprocal-is n = go (eqb n 1) (eqb n 2)
-    where
-      go : (a b : Bool) → a ≡ isReciprocal (cond a reciprocal (cond b root inverseRoot))
-      go true b = refl
-      go false true = refl
-      go false false = refl
-
   special-by : (op : Op) (b z : Bool) → b ≡ isReciprocal op → z ≡ eqb (patternOf (x .exponent) (x .fraction)) 0
       → eqb (x .exponent) 255 || z || (eqb (x .sign) 1 && not b) ≡ isSpecial op x
   unfolding isSpecial
@@ -79,7 +71,7 @@ module _ (x : Parts) (h : Ranges x) where
 
   pub special-is : (n : ℕ) (z : Bool) → z ≡ eqb (patternOf (x .exponent) (x .fraction)) 0
       → eqb (x .exponent) 255 || z || (eqb (x .sign) 1 && not (eqb n 1)) ≡ isSpecial (opOf n) x
-  special-is n z e = special-by (opOf n) (eqb n 1) z (reciprocal-is n) e
+  special-is n z e = special-by (opOf n) (eqb n 1) z (sym (reciprocal-named n)) e
 
   pub nan-answer : (r : Rounded) → r ≡ record { bits = 2143289344; flags = cond (ltb (x .fraction) 4194304) 1 0 }
       → r ≡ roundedAnswer (toNaN binary32 (patternOf (x .exponent) (x .fraction)))
@@ -120,7 +112,7 @@ module _ (x : Parts) (h : Ranges x) where
       → r ≡ cond nan nans inner
       → r ≡ roundedAnswer (specialTo (opOf n) x)
   special-answer n z nan edge nans refusal inner r ez en ea er ee ei e =
-      rw (e, ei, er, ea, en, ee, ez) (in-order (opOf n) (eqb n 1) (reciprocal-is n))
+      rw (e, ei, er, ea, en, ee, ez) (in-order (opOf n) (eqb n 1) (sym (reciprocal-named n)))
 
 -- which operation it is, by its number
 op-inverse : (n : ℕ) → (n ≡ 1 → ⊥) → (n ≡ 2 → ⊥) → opOf n ≡ inverseRoot

@@ -9,6 +9,7 @@ use lib.ListN.{length, take}
 use Rattle.kinds.specs.Operation.{isOperation}
 use Rattle.kinds.specs.Rounding.{isRounding}
 use Rattle.kinds.specs.Question.{ask}
+use Rattle.kinds.proofs.Questions.{yes}
 use Rattle.ieee.specs.Format.{binary32, infinity}
 use Rattle.ieee.specs.Call.{binary32Refusal}
 use Rattle.ieee.proofs.Bracket.{call-bracket}
@@ -22,7 +23,6 @@ use Rattle.plate.specs.declared.ListReply.{ListReply}
 use Rattle.plate.specs.Binary32.{binary32Call}
 use Rattle.plate.specs.List.{listReply, ListCall}
 use Rattle.theorems.specs.Bracket.{Binary32Bracket, ListsBracket}
-use Rattle.plate.proofs.Questions.{yes}
 
 -- two accepted calls with the same operation and the same positive finite operand, whatever status each is given
 pub binary32-bracket : (operation operand : ℕ) (a b : Status) (lower upper : Binary32Reply)
