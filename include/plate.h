@@ -3,7 +3,7 @@
    Every call takes every value of its numbers, checks them itself and gives one
    64-bit number:
 
-     bits  0 to 31   the answer; for the list its length in bytes
+     bits  0 to 31   the answer, or the list's length in bytes; 0 after a refusal
      bits 32 to 39   the new status; 0 for the raw and the list call
      bits 40 to 47   the refusal, 0 if the call was accepted
      bits 48 to 63   0
@@ -45,14 +45,14 @@ extern "C" {
 uint64_t plate_raw(uint8_t operation, uint32_t significand, uint8_t parity);
 
 /* The binary32 unit. status holds the flags so far. Refusals: 1, 2; after one
-   the answer is 0 and the status is the one given. */
+   the status is the one given. */
 uint64_t plate_binary32(uint8_t operation, uint8_t rounding, uint8_t status,
                         uint32_t bits);
 
 /* The cutter list of a map. The map is only read. After an accepted call the
    list stands at the front of the lent buffer and the bytes behind it are kept;
    after a refusal the whole buffer is. Refusals: 2, 5 to 11. Neither pointer
-   may be null, also where its length is 0, and the two must not overlap. */
+   may be null, even where its length is 0, and the two must not overlap. */
 uint64_t plate_list(uint8_t rounding, const uint8_t *map, size_t map_length,
                     uint8_t *list, size_t list_length);
 

@@ -1,5 +1,5 @@
 #!/usr/bin/env python3
-"""Every name that docs/PROMISES.md and README.md cite is in the tree.
+"""Every name that the documents cite is in the tree, and every must-fail edit can be applied.
 
 usage: promises.py      run in the project's root
 
@@ -7,7 +7,8 @@ usage: promises.py      run in the project's root
 `crate::function`   a function of crates/crate/src, `crate::Type::function` a method
 `crate!label`       a must-fail edit: crates/crate/must-fail/label.edit
 `path/to/file`      anything else with a slash is a path in the tree
-A must-fail edit that no row cites is an error too, and so is a row of a table with no name in it.
+A must-fail edit that no row cites is an error too, as is one whose `old:` text does not stand in its file exactly once, and a row of a
+table with no name in it.
 """
 import pathlib
 import re
@@ -51,23 +52,44 @@ def found(span):
     return None
 
 
+def misplaced(edit):
+    """The first old text that does not stand exactly once in its file, after the replacements before it."""
+    crate, path, old, texts = edit.parent.parent, None, None, {}
+    for line in edit.read_text(encoding='utf-8').split('\n'):
+        key, _, value = line.partition(': ')
+        if key == 'file':
+            path = crate / value
+            if path not in texts:
+                texts[path] = path.read_text(encoding='utf-8') if path.is_file() else ''
+        elif key == 'old':
+            old = value
+        elif key == 'new':
+            if texts[path].count(old) != 1:
+                return old
+            texts[path] = texts[path].replace(old, value)
+    return None if old else 'nothing'
+
+
 def main():
     wrong = []
     cited = set()
-    for document in ('docs/PROMISES.md', 'README.md'):
+    for document in ('docs/PROMISES.md', 'README.md', 'docs/DECISIONS.md'):
         for number, line in enumerate((ROOT / document).read_text(encoding='utf-8').split('\n'), 1):
             spans = re.findall(r'`([^`]+)`', line)
             cited.update(spans)
             for span in spans:
                 if found(span) is False:
                     wrong.append(f'{document}:{number}: `{span}` is not in the tree')
-            row = document == 'docs/PROMISES.md' and line.startswith('| ') and not line.startswith(('| Sentence', '|---'))
+            row = document == 'docs/PROMISES.md' and line.startswith('| ') and not line.startswith(('| Sentence', '| Fraud', '|---'))
             if row and not any(found(s) for s in spans):
                 wrong.append(f'{document}:{number}: a row that cites nothing')
     for edit in sorted(CRATES.glob('*/must-fail/*.edit')):
         label = f'{edit.parts[-3]}!{edit.stem}'
         if label not in cited:
             wrong.append(f'docs/PROMISES.md does not cite the edit `{label}`')
+        old = misplaced(edit)
+        if old:
+            wrong.append(f'{label}: not exactly once in its file: {old}')
     for line in wrong:
         print(line)
     print(f'promises: {len(cited)} names cited, {len(wrong)} wrong')

@@ -25,7 +25,7 @@ def frames():
 
 def main():
     maps = list(frames())
-    longest = max((m for m in maps if len(m) == 16400), key=len)
+    longest = next(m for m in maps if len(m) == 16400)
     maps += [b'', longest + b'\0', longest[:-1], b'\0' + longest, b'\0' * 16400, b'\0' * 16401, b'\0' * 70000]
     program = ROOT / 'target' / 'bin' / 'platelist'
     wrong = 0

@@ -3,13 +3,9 @@
 use std::hint::black_box;
 
 use plate_tests::chance::Chance;
-use plate_tests::machine;
+use plate_tests::{calls, machine};
 
 use crate::timing::{best, line, ROUNDS};
-
-extern "C" {
-    fn plate_binary32(operation: u8, rounding: u8, status: u8, bits: u32) -> u64;
-}
 
 const COUNT: usize = 4096;
 const ROUNDINGS: [&str; 4] = ["nearest", "up", "down", "toward zero"];
@@ -27,7 +23,7 @@ fn instruction(operation: u8, x: f32) -> f32 {
 fn unit_time(operation: u8, rounding: u8, operands: &[u32]) -> f64 {
     best(operands.len(), || {
         for &bits in operands {
-            black_box(unsafe { plate_binary32(black_box(operation), black_box(rounding), 0, bits) });
+            black_box(calls::binary32(black_box(operation), black_box(rounding), 0, bits));
         }
     })
 }
@@ -94,7 +90,7 @@ fn compare(operands: &[u32]) {
     for &bits in operands {
         for rounding in 0..4 {
             for operation in 1..=3 {
-                let given = unsafe { plate_binary32(operation, rounding, 0, bits) };
+                let given = calls::binary32(operation, rounding, 0, bits);
                 let about = || format!("{operation} {rounding} {bits:08X}");
                 match operation {
                     1 => {

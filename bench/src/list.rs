@@ -4,23 +4,10 @@
 
 use std::hint::black_box;
 
+use plate_tests::calls::list as unit;
 use plate_tests::chance::Chance;
 
 use crate::timing::{best, line, ROUNDS};
-
-extern "C" {
-    fn plate_list(
-        rounding: u8,
-        map: *const u8,
-        map_length: usize,
-        list: *mut u8,
-        list_length: usize,
-    ) -> u64;
-}
-
-fn unit(rounding: u8, map: &[u8], list: &mut [u8]) -> u64 {
-    unsafe { plate_list(rounding, map.as_ptr(), map.len(), list.as_mut_ptr(), list.len()) }
-}
 
 /// t / sqrt(square) floored, root being the machine's root of square. The float
 /// quotient is off by less than 10^-11, so its whole part by at most one. All

@@ -8,13 +8,10 @@
 //! answer goes through black_box, so no call is left out. Before it is timed, a
 //! program for the same answers is compared with the library on what is timed.
 
-#[cfg(feature = "binary32")]
 mod binary32;
-#[cfg(feature = "list")]
 mod list;
 #[cfg(feature = "mpfr")]
 mod mpfr;
-#[cfg(feature = "raw")]
 mod raw;
 mod timing;
 
@@ -28,17 +25,13 @@ fn main() {
     if cfg!(feature = "self") {
         println!("WITHOUT THE LIBRARY: \"unit\" is the Rust reference of tests/rust.\n");
     }
-    #[cfg(feature = "raw")]
     if wanted("raw") {
         raw::run();
     }
-    #[cfg(feature = "binary32")]
     if wanted("binary32") {
         binary32::run();
     }
-    #[cfg(feature = "list")]
     if wanted("list") {
         list::run();
     }
-    let _ = wanted;
 }

@@ -2,13 +2,10 @@
 
 use std::hint::black_box;
 
+use plate_tests::calls;
 use plate_tests::chance::Chance;
 
 use crate::timing::{best, line, ROUNDS};
-
-extern "C" {
-    fn plate_raw(operation: u8, significand: u32, parity: u8) -> u64;
-}
 
 /// The largest w with w * w <= t.
 const fn root(t: u128) -> i64 {
@@ -86,12 +83,12 @@ pub fn run() {
         ("inverse root, parity 1", 3, 1),
     ] {
         for &y in &significands {
-            let given = unsafe { plate_raw(operation, y, parity) };
+            let given = calls::raw(operation, y, parity);
             assert_eq!(given, plain(operation, y, parity), "raw {operation} {y} {parity}");
         }
         let unit = best(COUNT, || {
             for &y in &significands {
-                black_box(unsafe { plate_raw(black_box(operation), y, black_box(parity)) });
+                black_box(calls::raw(black_box(operation), y, black_box(parity)));
             }
         });
         let other = best(COUNT, || {

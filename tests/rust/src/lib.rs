@@ -1,6 +1,7 @@
 //! What the tests of the static library share. Nothing here was written from
 //! the unit's code.
 
+pub mod calls;
 pub mod chance;
 pub mod machine;
 pub mod reference;

@@ -6,20 +6,13 @@
 //!
 //! The first takes samples, the second all 2^32 patterns, an hour or more.
 
+use plate_tests::calls::binary32 as call;
 use plate_tests::chance::Chance;
 use plate_tests::reference::{binary32, ALL_FLAGS, DOWN, INVERSE_ROOT, RECIPROCAL, ROOT, UP};
 use plate_tests::{machine, pack, vectors, work};
 
-extern "C" {
-    fn plate_binary32(operation: u8, rounding: u8, status: u8, bits: u32) -> u64;
-}
-
 const SAMPLE: u64 = 12_000_000;
 const LAST_FINITE: u32 = 0x7F7F_FFFF;
-
-fn call(operation: u8, rounding: u8, status: u8, bits: u32) -> u64 {
-    unsafe { plate_binary32(operation, rounding, status, bits) }
-}
 
 /// Twelve calls, three operations in four roundings. The status differs from
 /// call to call and holds unknown bits too.
@@ -158,6 +151,8 @@ fn equal(operation: u8, bits: u32) -> bool {
     upper == lower
 }
 
+/// How many positive finite operands agree. Reciprocal: the powers 2^-127 to 2^127. Inverse root: the powers of four among 2^-149 to 2^127.
+/// Root: see `down_and_up`, which lists them by the rule.
 const COUNTS: [(u8, u64); 3] = [(RECIPROCAL, 255), (ROOT, 262_143), (INVERSE_ROOT, 138)];
 
 /// Demand 3. The full run asks all positive finite operands and counts those

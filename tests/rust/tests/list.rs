@@ -3,17 +3,7 @@
 
 use plate_tests::chance::Chance;
 use plate_tests::reference::{self, DOWN, UP};
-use plate_tests::{pack, vectors};
-
-extern "C" {
-    fn plate_list(
-        rounding: u8,
-        map: *const u8,
-        map_length: usize,
-        list: *mut u8,
-        list_length: usize,
-    ) -> u64;
-}
+use plate_tests::{calls, pack, vectors};
 
 const GUARD: usize = 32;
 
@@ -23,9 +13,7 @@ fn call(rounding: u8, map: &[u8], list: &mut [u8]) -> u64 {
     let before = map.to_vec();
     let mut guarded = vec![0xA5; list.len() + 2 * GUARD];
     guarded[GUARD..GUARD + list.len()].copy_from_slice(list);
-    let given = unsafe {
-        plate_list(rounding, map.as_ptr(), map.len(), guarded[GUARD..].as_mut_ptr(), list.len())
-    };
+    let given = calls::list(rounding, map, &mut guarded[GUARD..GUARD + list.len()]);
     assert!(map == before, "the map was written");
     let (front, rest) = guarded.split_at(GUARD);
     let (middle, behind) = rest.split_at(list.len());

@@ -1,19 +1,12 @@
 //! plate_raw against the steps of document 01 in plain Rust:
 //! cargo test --release --test raw
 
+use plate_tests::calls::raw as call;
 use plate_tests::chance::Chance;
 use plate_tests::reference::raw;
 use plate_tests::{pack, vectors, work};
 
-extern "C" {
-    fn plate_raw(operation: u8, significand: u32, parity: u8) -> u64;
-}
-
 const ACCEPTED: [(u8, u8); 5] = [(1, 0), (2, 0), (2, 1), (3, 0), (3, 1)];
-
-fn call(operation: u8, significand: u32, parity: u8) -> u64 {
-    unsafe { plate_raw(operation, significand, parity) }
-}
 
 fn check(operation: u8, significand: u32, parity: u8) {
     let (refusal, answer) = raw(operation, significand, parity);

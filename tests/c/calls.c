@@ -1,0 +1,60 @@
+/* The three calls through include/plate.h: rows of document 01's table, its
+   example, and a refusal of each call.
+
+     cc -std=c99 -Wall -Wextra -Werror -Iinclude tests/c/calls.c target/staticlib/libplate.a
+*/
+#include <stdio.h>
+#include <string.h>
+
+#include "plate.h"
+
+static int differs(int line, uint64_t given, uint32_t answer, uint8_t status, uint8_t refusal)
+{
+    int same = PLATE_ANSWER(given) == answer && PLATE_STATUS(given) == status
+        && PLATE_REFUSAL(given) == refusal && given >> 48 == 0;
+    if (!same)
+        printf("calls.c:%d: %08x, status %d, refusal %d\n", line, (unsigned)PLATE_ANSWER(given),
+               PLATE_STATUS(given), PLATE_REFUSAL(given));
+    return !same;
+}
+
+#define EXPECT(given, answer, status, refusal) \
+    if (differs(__LINE__, (given), (answer), (status), (refusal))) return 1
+
+/* Document 01's example: 3 x 3, each row 0, 1,500 and 3,000 high, step 2,000, radius 5,000. */
+static const uint8_t map[52] = {
+    0, 0, 0, 0, 0xDC, 0x05, 0, 0, 0xB8, 0x0B, 0, 0,
+    0, 0, 0, 0, 0xDC, 0x05, 0, 0, 0xB8, 0x0B, 0, 0,
+    0, 0, 0, 0, 0xDC, 0x05, 0, 0, 0xB8, 0x0B, 0, 0,
+    'P', 'L', 'T', '1', 36, 0, 0, 0, 3, 0, 3, 0, 0xD0, 0x07, 0x88, 0x13,
+};
+
+/* One record, -1000 2000 5500, and the trailer. */
+static const uint8_t list[28] = {
+    0x18, 0xFC, 0xFF, 0xFF, 0xD0, 0x07, 0, 0, 0x7C, 0x15, 0, 0,
+    'C', 'U', 'T', '1', 12, 0, 0, 0, 3, 0, 3, 0, 0xD0, 0x07, 0x88, 0x13,
+};
+
+int main(void)
+{
+    uint8_t buffer[29];
+
+    EXPECT(plate_raw(PLATE_RECIPROCAL, 12582912, 0), 178956970, 0, 0);
+    EXPECT(plate_raw(PLATE_ROOT, 8388608, 1), 379625062, 0, 0);
+    EXPECT(plate_raw(PLATE_RECIPROCAL, 8388608, 1), 0, 0, 4);
+
+    EXPECT(plate_binary32(PLATE_RECIPROCAL, PLATE_DOWN, PLATE_INVALID, 0x40400000), 0x3EAAAAAA, PLATE_INVALID | PLATE_INEXACT, 0);
+    EXPECT(plate_binary32(PLATE_RECIPROCAL, PLATE_UP, 0, 0x00200000), 0x7F800000, PLATE_OVERFLOW | PLATE_INEXACT, 0);
+    EXPECT(plate_binary32(PLATE_INVERSE_ROOT, PLATE_NEAREST, 0, 0x40800000), 0x3F000000, 0, 0);
+    EXPECT(plate_binary32(PLATE_ROOT, 4, 255, 0x40000000), 0, 255, 2);
+
+    memset(buffer, 0xAA, sizeof buffer);
+    EXPECT(plate_list(PLATE_NEAREST, map, sizeof map, buffer, 27), 0, 0, 11);
+    EXPECT(plate_list(PLATE_NEAREST, map, 15, buffer, sizeof buffer), 0, 0, 5);
+    if (buffer[0] != 0xAA || buffer[27] != 0xAA)
+        return 1;
+    EXPECT(plate_list(PLATE_NEAREST, map, sizeof map, buffer, sizeof buffer), 28, 0, 0);
+    if (memcmp(buffer, list, sizeof list) != 0 || buffer[28] != 0xAA)
+        return 1;
+    return 0;
+}
