@@ -6,9 +6,9 @@
 Each folder below crates/ gets a file stdin, what its program is given, and a
 file stdout, what it must print. The files are the same at every run.
 
-raw_vectors       stdin  operation significand parity
+call_vectors      stdin  r operation significand parity
                   stdout refusal answer
-binary32_vectors  stdin  operation rounding bits status
+                  stdin  b operation rounding bits status
                   stdout refusal bits status
                   bits are 8 upper-case hexadecimal digits
 list_vectors      stdin  binary frames: u32 length of the map, u32 length of the
@@ -69,14 +69,6 @@ def raw_calls():
             yield operation, chance.randint(SMALLEST, LARGEST), parity
     for _ in range(100):
         yield chance.randrange(256), chance.randrange(2**32), chance.randrange(256)
-
-
-def raw_files():
-    given, expected = [], []
-    for call in raw_calls():
-        given.append("%d %d %d\n" % call)
-        expected.append("%d %d\n" % plate.raw(*call))
-    return "".join(given).encode(), "".join(expected).encode()
 
 
 # ---------------------------------------------------------------- binary32
@@ -177,10 +169,13 @@ def binary32_calls():
         yield 1, chance.randrange(4), chance.randrange(1, 0x00400000) | SIGN, status()
 
 
-def binary32_files():
+def call_files():
     given, expected = [], []
+    for call in raw_calls():
+        given.append("r %d %d %d\n" % call)
+        expected.append("%d %d\n" % plate.raw(*call))
     for call in binary32_calls():
-        given.append("%d %d %08X %d\n" % call)
+        given.append("b %d %d %08X %d\n" % call)
         expected.append("%d %08X %d\n" % plate.binary32(*call))
     return "".join(given).encode(), "".join(expected).encode()
 
@@ -413,8 +408,8 @@ def main():
     if sys.argv[1:] and not check:
         sys.exit("usage: make_vectors.py [--check]")
     differing = 0
-    for name, files in (("raw_vectors", raw_files), ("binary32_vectors", binary32_files),
-                        ("list_vectors", list_files), ("platelist", platelist_files)):
+    for name, files in (("call_vectors", call_files), ("list_vectors", list_files),
+                        ("platelist", platelist_files)):
         for file, content in zip(("stdin", "stdout"), files()):
             path = CRATES / name / file
             if check:

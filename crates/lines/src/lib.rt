@@ -1,5 +1,5 @@
 // Numbers in lines of text, for programs that read vectors. A number is its digits, and one byte behind them separates it from the next.
-ghost use Prim.Native.Nat.{_≤_, _<_, _^_};
+ghost use Prim.Native.Nat.{_+_, _≤_, _<_, _^_, min};
 ghost use lib.ListN.{length};
 ghost use Rattle.lines.specs.Read.{Read};
 
@@ -16,8 +16,16 @@ pub fn number_at(s: &[u8], at: usize, base: u64) -> Number
 {
     let end = end_of(s, at, base);
     let value = value_of(s, at, end, base);
-    let next = if end < s.len() { end + 1 } else { end };
+    let next = behind(s, end);
     Number { value, next }
+}
+
+// The place behind the separator at a place; at the end of the text that place itself.
+pub fn behind(s: &[u8], at: usize) -> usize
+    requires { ⌜ at ≤ length (now s) ⌝ }
+    ensures { λ r. ⌜ (min (at + 1) (length (now (s .entry))) ≤ r) × (r ≤ length (now (s .entry))) ⌝ }
+{
+    if at < s.len() { at + 1 } else { at }
 }
 
 // The first place that has no digit of the base.
@@ -69,7 +77,7 @@ fn digit(b: u8) -> u64
     }
 }
 
-// A number as a byte; one that is too large is 255, which no question takes.
+// A number as a byte; one that is too large is 255.
 pub fn byte(x: u64) -> u8 {
     if x < 256 { x as u8 } else { 255 }
 }

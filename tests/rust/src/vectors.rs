@@ -10,10 +10,10 @@ pub fn file(folder: &str, name: &str) -> Vec<u8> {
     std::fs::read(&path).unwrap_or_else(|error| panic!("{}: {error}", path.display()))
 }
 
-/// The words of each line of both files, side by side.
-pub fn lines(folder: &str) -> Vec<(Vec<String>, Vec<String>)> {
+/// The operands of each call of a kind, r or b, and what it gives.
+pub fn calls(kind: &str) -> Vec<(Vec<String>, Vec<String>)> {
     let words = |name| -> Vec<Vec<String>> {
-        String::from_utf8(file(folder, name))
+        String::from_utf8(file("call_vectors", name))
             .unwrap()
             .lines()
             .map(|line| line.split(' ').map(String::from).collect())
@@ -21,7 +21,8 @@ pub fn lines(folder: &str) -> Vec<(Vec<String>, Vec<String>)> {
     };
     let (given, expected) = (words("stdin"), words("stdout"));
     assert_eq!(given.len(), expected.len());
-    given.into_iter().zip(expected).collect()
+    let both = given.into_iter().zip(expected);
+    both.filter(|(given, _)| given[0] == kind).map(|(given, expected)| (given[1..].to_vec(), expected)).collect()
 }
 
 pub struct Frame {

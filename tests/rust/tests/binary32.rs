@@ -207,7 +207,7 @@ fn pattern(m: u32, q: i32) -> Option<u32> {
 /// The file that the reference program in Python made, against both.
 #[test]
 fn vector_file() {
-    for (given, expected) in vectors::lines("binary32_vectors") {
+    for (given, expected) in vectors::calls("b") {
         let byte = |text: &str| text.parse::<u8>().unwrap();
         let word = |text: &str| u32::from_str_radix(text, 16).unwrap();
         let (operation, rounding) = (byte(&given[0]), byte(&given[1]));

@@ -1,9 +1,9 @@
--- `raw_vectors::answer_all` meets its contract: each line takes the place farther on. Assumes nothing.
+-- `call_vectors::answer_all` meets its contract: each line takes the place farther on. Assumes nothing.
 use Prim.Native.Nat.{_-_, _≤_}
 use lib.ListN.{length}
 use borrow.Author.Needs.{needs}
-use Rattle.raw_vectors.proofs.answer_all.Statement.{statement}
-use Rattle.raw_vectors.proofs.answer_all.Tie as tie
+use Rattle.call_vectors.proofs.answer_all.Statement.{statement}
+use Rattle.call_vectors.proofs.answer_all.Tie as tie
 
 abbrev Inv-loop : tie.InvT-loop
 Inv-loop text at₀ at = at ≤ length text
