@@ -6,7 +6,7 @@ use native.Mathlib.Nat.{mul-le-mul-right}
 use native.Mathlib.Omega.{arith}
 use lib.IntN.{ℤ, negℤ, natAbs, _-ℤ_}
 use Rattle.words.proofs.Differences.{abs-neg}
-use Rattle.cutter.specs.Map.{Inner, widthOf, depthOf, stepOf, radiusOf, heightAt, acrossAt, alongAt}
+use Rattle.cutter.specs.Map.{Inner, widthOf, depthOf, stepOf, radiusOf, heightAt, dxAt, dyAt}
 use Rattle.cutter.specs.Centre.{pointAt}
 use Rattle.cutter.specs.List.{countOf, innerPoint}
 use Rattle.cutter.proofs.Accepted.{Accepted}
@@ -34,7 +34,7 @@ module _ (m : List ℕ) {room : ℕ} (a : Accepted m room) where
 
   -- the inner point n is in range
   pub inner-in-range : (n : ℕ) → n < countOf (widthOf m) (depthOf m) → InRange (stepOf m) (radiusOf m) (innerPoint m n)
-  unfolding pointAt acrossAt alongAt
+  unfolding pointAt dxAt dyAt
   inner-in-range n h =
       let w = widthOf m in
       let d = depthOf m in
