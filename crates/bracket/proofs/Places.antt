@@ -1,5 +1,5 @@
 -- Every inner point of a map is the point of one record of its list, and every record's point is an inner one. Assumes nothing.
-use mathlib.Core.Path.{_≡_, subst, subst₂}
+use mathlib.Core.Path.{_≡_, subst₂}
 use mathlib.Core.List.{List}
 use Prim.Native.Nat.{ℕ, _+_, _-_, _*_, _/_, _%_, _≤_, _<_}
 use native.Mathlib.Nat.{mod-lt, div-lt-iff-lt-mul, add-mul-div-right, add-mul-mod-self-right, div-eq-of-lt, mod-eq-of-lt, mul-le-mul-right}
