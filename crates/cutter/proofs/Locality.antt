@@ -1,22 +1,15 @@
 -- A centre depends on its own height, the differences of its four neighbours, its place, step and radius, and on nothing else of the map. Assumes nothing.
-use mathlib.Core.Path.{_≡_, ap}
+use mathlib.Core.Path.{_≡_}
 use mathlib.Core.List.{List}
-use Prim.Native.Nat.{ℕ, _+_, _-_, _*_, _/_, _%_, _≤_, _<_}
+use Prim.Native.Nat.{ℕ, _+_, _-_, _*_, _/_, _≤_, _<_}
 use native.Mathlib.Omega.{arith}
 use lib.ListN.{length, getD, set, length-set}
 use lib.Seq.{getD-set-other}
 use Rattle.kinds.specs.Rounding.{Mode}
 use Rattle.words.specs.Word.{halfAt, wordAt}
 use Rattle.cutter.specs.Map.{widthOf, stepOf, radiusOf, heightAt, dxAt, dyAt}
-use Rattle.cutter.specs.Centre.{pointAt, recordBytes}
-use Rattle.cutter.specs.List.{centreAt, recordAt}
-
--- the column and the row of the inner point n of a map that is w wide
-abbrev columnOf : ℕ → ℕ → ℕ
-columnOf w n = n % (w - 2) + 1
-
-abbrev rowOf : ℕ → ℕ → ℕ
-rowOf w n = n / (w - 2) + 1
+use Rattle.cutter.specs.Centre.{pointAt}
+use Rattle.cutter.specs.List.{columnOf, rowOf, centreAt, recordAt}
 
 -- two maps: the centres at two of their points are the same where the places, the heights, the differences, the steps and the radii are
 pub same-centre : (mode : Mode) (m l : List ℕ) (n k : ℕ)
@@ -28,10 +21,6 @@ pub same-centre : (mode : Mode) (m l : List ℕ) (n k : ℕ)
     → centreAt mode m n ≡ centreAt mode l k
 unfolding centreAt pointAt
 same-centre mode m l n k step radius column row height dx dy = cc
-
-pub same-record : (mode : Mode) (m l : List ℕ) (n k : ℕ) → centreAt mode m n ≡ centreAt mode l k → recordAt mode m n ≡ recordAt mode l k
-unfolding recordAt
-same-record mode m l n k e = ap recordBytes e
 
 -- ---- one byte changed elsewhere
 
