@@ -19,16 +19,14 @@ use Rattle.words.proofs.Differences.{abs-neg, signed-small}
 use Rattle.words.specs.declared.Signed.{Signed}
 use Rattle.cutter.specs.Offset.{squaredLength, roundedOver, offsetOf}
 use Rattle.offset.specs.Inverse.{Ranges}
-use Rattle.cutter.specs.Map.{heightAt, dxAt, dyAt}
+use Rattle.cutter.specs.Map.{Inner, heightAt, dxAt, dyAt}
 use Rattle.cutter.specs.Centre.{centreOf, pointAt, recordBytes}
 use Rattle.cutter.specs.Asked.{Sizes, Steps}
-use Rattle.cutter.specs.Map.{Inner}
 use Rattle.normals.specs.Normal.{NormalOf, Measured}
 use Rattle.centres.specs.Words.{offsetParts, offsetsOf, wordsBytes}
 use Rattle.normals.specs.declared.Normal.{Normal}
 use Rattle.centres.specs.declared.Offsets.{Offsets}
 use Rattle.centres.specs.declared.Words.{Words}
-use Rattle.normals.proofs.Slopes.{square-most}
 
 -- ---- ranges
 
@@ -38,7 +36,7 @@ module _ (n : Normal) (step radius : ℕ) (f : Measured n step) (g : Steps step 
 
   pub squared-most : n .squared < 34359738368
   squared-most =
-      omega (arith, f .squared, square-most (f .x-most), square-most (f .y-most), square-most (g .step-most))
+      omega (arith, f .squared, mul-le-mul (f .x-most) (f .x-most), mul-le-mul (f .y-most) (f .y-most), mul-le-mul (g .step-most) (g .step-most))
 
   ranges-of : (component : ℕ) → component ≤ 100000 → component * component ≤ n .squared → Ranges component radius (n .squared)
   ranges-of component h k = record {

@@ -1,8 +1,8 @@
--- Heights and their differences, as the code has them. Assumes nothing.
+-- Heights and their differences, as the code has them, the places around an inner point, and the normal there. Assumes nothing.
 use mathlib.Core.Path.{_≡_, sym, ap, ap₂, _∙_}
 use mathlib.Core.List.{List}
 use Prim.Native.Nat.{ℕ, suc, _+_, _-_, _*_, _%_, _≤_, _<_}
-use native.Mathlib.Nat.{mul-comm, suc-mul, mul-le-mul, mul-le-mul-right}
+use native.Mathlib.Nat.{mul-comm, suc-mul, mul-le-mul-right}
 use native.Mathlib.Omega.{arith}
 use mir.Val.{Fits}
 use mir.Syntax.{w64}
@@ -12,9 +12,8 @@ use Rattle.words.specs.Signed.{signed}
 use Rattle.words.specs.Parts.{partsOf}
 use Rattle.words.specs.declared.Signed.{Signed}
 use Rattle.words.proofs.Differences.{signed-raised, within-raised, diff-sub, diff-eq, diff-abs}
-use Rattle.cutter.specs.Map.{heightAt, dxAt, dyAt}
+use Rattle.cutter.specs.Map.{Inner, heightAt, dxAt, dyAt}
 use Rattle.cutter.specs.Asked.{Heights, Sizes}
-use Rattle.cutter.specs.Map.{Inner}
 use Rattle.normals.specs.Normal.{NormalOf}
 use Rattle.cutter.proofs.Questions.{size-most}
 
@@ -121,7 +120,3 @@ pub normal-is : (m : List ℕ) (w d c q l : ℕ) (x y : Signed) → Inner w d c 
     → NormalOf (dxAt m w c q) (dyAt m w c q) (record { x = x; y = y; squared = l })
 normal-is m w d c q l x y h ex ey =
     record { x = ex ∙ ap partsOf (sym (dx-is m w d c q h)); y = ey ∙ ap partsOf (sym (dy-is m w d c q h)) }
-
--- a square and its bound
-pub square-most : {x k : ℕ} → x ≤ k → x * x ≤ k * k
-square-most h = mul-le-mul h h

@@ -1,13 +1,12 @@
 // Heights of a map and the normal at a point.
 ghost use mathlib.Core.Path.{_≡_};
-ghost use Prim.Native.Nat.{_+_, _-_, _*_, _≤_, _<_};
+ghost use Prim.Native.Nat.{_+_, _*_, _≤_, _<_};
 ghost use lib.IntN.{_-ℤ_};
 ghost use Rattle.words.specs.Word.{wordAt};
 ghost use Rattle.words.specs.Signed.{signed};
 ghost use Rattle.words.specs.Parts.{partsOf};
-ghost use Rattle.cutter.specs.Map.{dxAt, dyAt};
+ghost use Rattle.cutter.specs.Map.{Inner, dxAt, dyAt};
 ghost use Rattle.cutter.specs.Asked.{Heights, Ready};
-ghost use Rattle.cutter.specs.Map.{Inner};
 ghost use Rattle.normals.specs.Normal.{NormalOf, Measured};
 use cutter::trailer::Trailer;
 use words::Signed;
