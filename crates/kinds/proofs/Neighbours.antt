@@ -1,4 +1,4 @@
--- A rounding takes the lower neighbour or the next, and by which test of the two bits that say a place. Assumes nothing.
+-- What a rounding does with the two bits that say a place, and that its result is at most the next neighbour. Assumes nothing.
 use mathlib.Core.Path.{_≡_, refl}
 use mathlib.Core.Bool.{Bool, true, false, cond, not, _&&_, _||_}
 use Prim.Native.Nat.{ℕ, suc, _%_, _≤_}
