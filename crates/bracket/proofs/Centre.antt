@@ -14,15 +14,13 @@ use Rattle.words.proofs.Differences.{abs-neg}
 use Rattle.cutter.specs.Offset.{squaredLength, offsetOf, MultipleOf}
 use Rattle.cutter.specs.Centre.{Point, Centre, centreOf}
 use Rattle.cutter.specs.Agree.{ExactAt}
+use Rattle.cutter.specs.Asked.{Steps}
 use Rattle.bracket.specs.Bracket.{WholeOver, coordinate, OffsetBracket, CentreBracket}
 use Rattle.bracket.proofs.Offset.{offset-small, offset-bracket}
 
 -- what is known of the step, the radius and a point of an accepted map
 pub record InRange (step radius : ℕ) (p : Point) : Type 0 where
-  pub step-from : 1 ≤ step
-  pub step-to : step ≤ 10000
-  pub radius-from : 1 ≤ radius
-  pub radius-to : radius ≤ 12500
+  pub steps : Steps step radius
   pub column-to : p .column ≤ 64
   pub row-to : p .row ≤ 64
   pub height-to : natAbs (p .height) ≤ 50000
@@ -95,17 +93,17 @@ multiple-whole q n w s d = inr (record { root = w; square = s; multiple = d })
 module _ (step radius : ℕ) (p : Point) (h : InRange step radius p) where
   -- the normal is not 0
   length-pos : 0 < lengthAt step p
-  length-pos = omega (arith, mul-pos (h .step-from) (h .step-from))
+  length-pos = omega (arith, mul-pos (h .steps .step-least) (h .steps .step-least))
 
   -- each component times the radius, and each coordinate of the map point, is small
   product-to : (j : ℕ) → natAbs (normalAlong step p j) * radius ≤ 1250000000
-  product-to zero = rw (abs-neg (p .dx)) (omega (arith, mul-le-mul (h .dx-to) (h .radius-to)))
-  product-to (suc zero) = rw (abs-neg (p .dy)) (omega (arith, mul-le-mul (h .dy-to) (h .radius-to)))
-  product-to (suc (suc j)) = omega (arith, mul-le-mul (h .step-to) (h .radius-to))
+  product-to zero = rw (abs-neg (p .dx)) (omega (arith, mul-le-mul (h .dx-to) (h .steps .radius-most)))
+  product-to (suc zero) = rw (abs-neg (p .dy)) (omega (arith, mul-le-mul (h .dy-to) (h .steps .radius-most)))
+  product-to (suc (suc j)) = omega (arith, mul-le-mul (h .steps .step-most) (h .steps .radius-most))
 
   point-to : (j : ℕ) → natAbs (pointAlong step p j) ≤ 640000
-  point-to zero = omega (arith, mul-le-mul (h .column-to) (h .step-to))
-  point-to (suc zero) = omega (arith, mul-le-mul (h .row-to) (h .step-to))
+  point-to zero = omega (arith, mul-le-mul (h .column-to) (h .steps .step-most))
+  point-to (suc zero) = omega (arith, mul-le-mul (h .row-to) (h .steps .step-most))
   point-to (suc (suc j)) = omega (arith, h .height-to)
 
   -- every coordinate is a signed number of 32 bits
@@ -157,7 +155,7 @@ module _ (step radius : ℕ) (p : Point) (h : InRange step radius p) where
   exact-of e = by-z (whole-along 2 (e 2))
     where
       by-z : Along 2 → ExactAt step radius p
-      by-z (inl z) = absurd (omega (arith, mul-pos (h .step-from) (h .radius-from)))
+      by-z (inl z) = absurd (omega (arith, mul-pos (h .steps .step-least) (h .steps .radius-least)))
       by-z (inr d) =
           record {
             root = d .root;

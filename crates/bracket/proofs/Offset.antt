@@ -2,15 +2,16 @@
 use mathlib.Core.Path.{_≡_, refl, sym, ap, _∙_}
 use mathlib.Core.Logic.{_⊎_, inl, inr, by-cases}
 use mathlib.Core.Bool.{Bool, true, false, cond, not}
-use Prim.Native.Nat.{ℕ, zero, suc, _*_, _%_, _^_, _≤_, _<_}
+use Prim.Native.Nat.{ℕ, zero, suc, _*_, _^_, _≤_, _<_}
 use native.Mathlib.Nat.{mul-le-mul, mul-le-mul-left, mul-le-mul-right, mul-pos, eq-zero-or-pos}
 use native.Mathlib.Numerals.{add-one}
 use native.Mathlib.Decide.{ℕ-discrete, decLt}
 use native.Mathlib.Omega.{arith}
-use lib.Dec.{eqb, leb→le, le→leb}
+use lib.Dec.{leb→le, le→leb}
 use lib.IntN.{ℤ, pos, negsuc, natAbs, sucℤ, _+ℤ_, +ℤ-one}
-use Rattle.kinds.specs.Rounding.{Mode, up, down, away, roundedBy}
+use Rattle.kinds.specs.Rounding.{Mode, up, down}
 use Rattle.kinds.proofs.Directed as directed
+use Rattle.kinds.proofs.Neighbours.{next-most}
 use Rattle.numbers.proofs.Greatest.{greatest-found, greatest-above, squareFits, square-antitone}
 use Rattle.numbers.proofs.Squares.{square-rising, square-same, square-part}
 use Rattle.words.specs.Signed.{withSign, isNegative}
@@ -98,12 +99,8 @@ rounded-up negative n q h = directed.rounded-up _ _ _ _ _ _ h
 
 -- every rounding is at most one above the floor
 rounded-small : (mode : Mode) (negative : Bool) (n q : ℕ) → roundedOver mode negative n q ≤ suc (floorOver n q)
-unfolding roundedOver roundedBy
-rounded-small mode negative n q = go (away mode negative (eqb (floorOver n q % 2) 1) (placeOver n q (floorOver n q)))
-  where
-    go : (b : Bool) → cond b (suc (floorOver n q)) (floorOver n q) ≤ suc (floorOver n q)
-    go true = omega arith
-    go false = omega arith
+unfolding roundedOver
+rounded-small mode negative n q = next-most mode negative (floorOver n q) (placeOver n q (floorOver n q))
 
 -- ---- the two roundings of an offset
 

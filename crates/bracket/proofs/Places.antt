@@ -1,16 +1,16 @@
 -- Every inner point of a map is the point of one record of its list, and every record's point is an inner one. Assumes nothing.
-use mathlib.Core.Path.{_≡_, subst, subst₂}
+use mathlib.Core.Path.{_≡_, subst₂}
 use mathlib.Core.List.{List}
 use Prim.Native.Nat.{ℕ, _+_, _-_, _*_, _/_, _%_, _≤_, _<_}
 use native.Mathlib.Nat.{mod-lt, div-lt-iff-lt-mul, add-mul-div-right, add-mul-mod-self-right, div-eq-of-lt, mod-eq-of-lt, mul-le-mul-right}
 use native.Mathlib.Omega.{arith}
 use Rattle.cutter.specs.Map.{Inner, widthOf, depthOf}
 use Rattle.cutter.specs.Centre.{Point, pointAt}
-use Rattle.cutter.specs.List.{countOf, innerPoint}
+use Rattle.cutter.specs.List.{countOf, columnOf, rowOf, innerPoint}
 
 module _ (w d : ℕ) (wide : 3 ≤ w) where
   -- the place of record n
-  pub inner-at : (n : ℕ) → n < countOf w d → Inner w d (n % (w - 2) + 1) (n / (w - 2) + 1)
+  pub inner-at : (n : ℕ) → n < countOf w d → Inner w d (columnOf w n) (rowOf w n)
   inner-at n h =
       let k : 0 < w - 2 = omega arith in
       let c : n % (w - 2) < w - 2 = mod-lt n k in
@@ -30,10 +30,10 @@ module _ (w d : ℕ) (wide : 3 ≤ w) where
         let r : (q - 1) + 1 ≤ d - 2 = omega arith in
         omega (arith, column-short, mul-le-mul-right (w - 2) r)
 
-    pub column-is : indexAt % (w - 2) + 1 ≡ c
+    pub column-is : columnOf w indexAt ≡ c
     column-is = rw (add-mul-mod-self-right, mod-eq-of-lt column-short) (omega arith)
 
-    pub row-is : indexAt / (w - 2) + 1 ≡ q
+    pub row-is : rowOf w indexAt ≡ q
     row-is = rw (add-mul-div-right (c - 1) (q - 1) {z = w - 2} (omega arith), div-eq-of-lt column-short) (omega arith)
 
 -- what holds at the point of each record holds at each inner point

@@ -1,14 +1,13 @@
 -- The ranges of each inner point of an accepted map. Assumes nothing.
-use mathlib.Core.Path.{_≡_}
 use mathlib.Core.List.{List}
-use Prim.Native.Nat.{ℕ, _+_, _-_, _*_, _/_, _%_, _≤_, _<_}
+use Prim.Native.Nat.{ℕ, _+_, _-_, _*_, _≤_, _<_}
 use native.Mathlib.Nat.{mul-le-mul-right}
 use native.Mathlib.Omega.{arith}
 use lib.IntN.{ℤ, negℤ, natAbs, _-ℤ_}
 use Rattle.words.proofs.Differences.{abs-neg}
-use Rattle.cutter.specs.Map.{Inner, widthOf, depthOf, stepOf, radiusOf, heightAt, acrossAt, alongAt}
+use Rattle.cutter.specs.Map.{Inner, widthOf, depthOf, stepOf, radiusOf, heightAt, dxAt, dyAt}
 use Rattle.cutter.specs.Centre.{pointAt}
-use Rattle.cutter.specs.List.{countOf, innerPoint}
+use Rattle.cutter.specs.List.{countOf, columnOf, rowOf, innerPoint}
 use Rattle.cutter.proofs.Accepted.{Accepted}
 use Rattle.bracket.proofs.Centre.{InRange, abs-add}
 use Rattle.bracket.proofs.Places.{inner-at}
@@ -34,18 +33,15 @@ module _ (m : List ℕ) {room : ℕ} (a : Accepted m room) where
 
   -- the inner point n is in range
   pub inner-in-range : (n : ℕ) → n < countOf (widthOf m) (depthOf m) → InRange (stepOf m) (radiusOf m) (innerPoint m n)
-  unfolding pointAt acrossAt alongAt
+  unfolding pointAt dxAt dyAt
   inner-in-range n h =
       let w = widthOf m in
       let d = depthOf m in
-      let c = n % (w - 2) + 1 in
-      let q = n / (w - 2) + 1 in
+      let c = columnOf w n in
+      let q = rowOf w n in
       let i : Inner w d c q = inner-at w d (a .sizes .wide) n h in
       record {
-        step-from = a .steps .step-least;
-        step-to = a .steps .step-most;
-        radius-from = a .steps .radius-least;
-        radius-to = a .steps .radius-most;
+        steps = a .steps;
         column-to = omega (arith, a .sizes .narrow);
         row-to = omega (arith, a .sizes .shallow);
         height-to = height-small c q (omega arith) (omega arith);

@@ -6,12 +6,18 @@ use mathlib.Core.List.{List}
 use lib.ListN.{length, take, drop}
 use lib.IntN.{ℤ, pos, natAbs, _+ℤ_}
 use Rattle.kinds.specs.Rounding.{modeOf, up, down}
-use Rattle.cutter.specs.Offset.{offsetOf, DividedBy}
+use Rattle.cutter.specs.Offset.{offsetOf, MultipleOf}
 use Rattle.cutter.specs.Map.{widthOf, depthOf}
 use Rattle.cutter.specs.Centre.{Point, Centre, centreOf}
 use Rattle.cutter.specs.List.{countOf, centreAt, listLength, listBytes}
 use Rattle.cutter.specs.Call.{listAnswer, bufferAfter}
 use Rattle.cutter.specs.Agree.{ExactAt, ExactMap, entryAt}
+
+-- q is a perfect square whose root divides n
+pub record DividedBy (q n : ℕ) : Type 0 where
+  pub root : ℕ
+  pub square : root * root ≡ q
+  pub multiple : MultipleOf root n
 
 -- n over √q is a whole number: n is 0, or q is a perfect square whose root divides n
 abbrev pub WholeOver : ℕ → ℕ → Type 0

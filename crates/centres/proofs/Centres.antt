@@ -19,16 +19,14 @@ use Rattle.words.proofs.Differences.{abs-neg, signed-small}
 use Rattle.words.specs.declared.Signed.{Signed}
 use Rattle.cutter.specs.Offset.{squaredLength, roundedOver, offsetOf}
 use Rattle.offset.specs.Inverse.{Ranges}
-use Rattle.cutter.specs.Map.{heightAt, acrossAt, alongAt}
+use Rattle.cutter.specs.Map.{Inner, heightAt, dxAt, dyAt}
 use Rattle.cutter.specs.Centre.{centreOf, pointAt, recordBytes}
 use Rattle.cutter.specs.Asked.{Sizes, Steps}
-use Rattle.cutter.specs.Map.{Inner}
 use Rattle.normals.specs.Normal.{NormalOf, Measured}
 use Rattle.centres.specs.Words.{offsetParts, offsetsOf, wordsBytes}
 use Rattle.normals.specs.declared.Normal.{Normal}
 use Rattle.centres.specs.declared.Offsets.{Offsets}
 use Rattle.centres.specs.declared.Words.{Words}
-use Rattle.normals.proofs.Slopes.{square-most}
 
 -- ---- ranges
 
@@ -38,7 +36,7 @@ module _ (n : Normal) (step radius : ℕ) (f : Measured n step) (g : Steps step 
 
   pub squared-most : n .squared < 34359738368
   squared-most =
-      omega (arith, f .squared, square-most (f .x-most), square-most (f .y-most), square-most (g .step-most))
+      omega (arith, f .squared, mul-le-mul (f .x-most) (f .x-most), mul-le-mul (f .y-most) (f .y-most), mul-le-mul (g .step-most) (g .step-most))
 
   ranges-of : (component : ℕ) → component ≤ 100000 → component * component ≤ n .squared → Ranges component radius (n .squared)
   ranges-of component h k = record {
@@ -108,13 +106,13 @@ offset-is mode z s t radius l e f =
     ∙ ap (λ (s : Signed). withSign (s .negative) (roundedOver mode (s .negative) (s .magnitude * radius) l)) e
 
 module _ (mode : Mode) (m : List ℕ) (w d c q step radius : ℕ) (n : Normal) where
-  squared-is : NormalOf (acrossAt m w c q) (alongAt m w c q) n → Measured n step
-      → n .squared ≡ squaredLength (acrossAt m w c q) (alongAt m w c q) step
+  squared-is : NormalOf (dxAt m w c q) (dyAt m w c q) n → Measured n step
+      → n .squared ≡ squaredLength (dxAt m w c q) (dyAt m w c q) step
   unfolding partsOf
-  squared-is f g = cc (abs-neg (acrossAt m w c q), abs-neg (alongAt m w c q), f .x, f .y, g .squared)
+  squared-is f g = cc (abs-neg (dxAt m w c q), abs-neg (dyAt m w c q), f .x, f .y, g .squared)
 
   pub centre-is : (o : Offsets) (u x y z : ℕ) → Sizes w d → Inner w d c q → Steps step radius
-      → NormalOf (acrossAt m w c q) (alongAt m w c q) n → Measured n step → o ≡ offsetsOf mode n step radius
+      → NormalOf (dxAt m w c q) (dyAt m w c q) n → Measured n step → o ≡ offsetsOf mode n step radius
       → u ≡ wordAt m (4 * (q * w + c))
       → x ≡ wordOf (signed (c * step) +ℤ withSign (o .x .negative) (o .x .magnitude))
       → y ≡ wordOf (signed (q * step) +ℤ withSign (o .y .negative) (o .y .magnitude))
@@ -123,12 +121,12 @@ module _ (mode : Mode) (m : List ℕ) (w d c q step radius : ℕ) (n : Normal) w
   unfolding wordsBytes recordBytes centreOf pointAt
   centre-is o u x y z s h k f g eo eu ex ey ez =
       let up : Signed = record { negative = false; magnitude = 2 * step } in
-      let l : n .squared ≡ squaredLength (acrossAt m w c q) (alongAt m w c q) step = squared-is f g in
+      let l : n .squared ≡ squaredLength (dxAt m w c q) (dyAt m w c q) step = squared-is f g in
       let column : signed (c * step) ≡ pos (c * step) = signed-small (c * step) (omega (arith, column-most w d c q step radius s h k)) in
       let row : signed (q * step) ≡ pos (q * step) = signed-small (q * step) (omega (arith, row-most w d c q step radius s h k)) in
       let height : signed u ≡ heightAt m w c q = unfold heightAt in ap signed eu in
-      let ox = offset-is mode (negℤ (acrossAt m w c q)) (n .x) (o .x) radius (n .squared) (f .x) (unfold offsetsOf in ap (λ (o : Offsets). o .x) eo) in
-      let oy = offset-is mode (negℤ (alongAt m w c q)) (n .y) (o .y) radius (n .squared) (f .y) (unfold offsetsOf in ap (λ (o : Offsets). o .y) eo) in
+      let ox = offset-is mode (negℤ (dxAt m w c q)) (n .x) (o .x) radius (n .squared) (f .x) (unfold offsetsOf in ap (λ (o : Offsets). o .x) eo) in
+      let oy = offset-is mode (negℤ (dyAt m w c q)) (n .y) (o .y) radius (n .squared) (f .y) (unfold offsetsOf in ap (λ (o : Offsets). o .y) eo) in
       let oz = offset-is mode (pos (2 * step)) up (o .z) radius (n .squared) (unfold partsOf in refl) (unfold offsetsOf in ap (λ (o : Offsets). o .z) eo) in
       cc
 

@@ -1,6 +1,6 @@
 // The centre at an inner point, and its record.
 ghost use mathlib.Core.Path.{_≡_};
-ghost use Prim.Native.Nat.{_+_, _*_, _≤_};
+ghost use Prim.Native.Nat.{_+_, _≤_};
 ghost use lib.ListN.{length};
 ghost use Rattle.kinds.specs.Rounding.{modeOf};
 ghost use Rattle.words.specs.Splice.{splice};
@@ -19,8 +19,8 @@ use offset::Inverse;
 use offset::inverse_of;
 use offset::rounded_over;
 use words::Signed;
-use words::lifted;
 use words::put_word;
+use words::wrapping_add_signed;
 
 // The offsets along x, y and z, in micrometres.
 pub struct Offsets {
@@ -94,9 +94,9 @@ fn centre(rounding: Rounding, map: &[u8], trailer: Trailer, column: usize, row: 
         trailer.width * trailer.depth,
     );
     Words {
-        x: lifted((column as u64) * step, o.x),
-        y: lifted((row as u64) * step, o.y),
-        z: lifted(height, o.z),
+        x: wrapping_add_signed((column as u64) * step, o.x),
+        y: wrapping_add_signed((row as u64) * step, o.y),
+        z: wrapping_add_signed(height, o.z),
     }
 }
 

@@ -1,6 +1,5 @@
 -- What a list call that is not refused knows of its map and its buffer. Assumes nothing.
 use mathlib.Core.Path.{_≡_}
-use mathlib.Core.Bool.{_&&_}
 use mathlib.Core.List.{List}
 use Prim.Native.Nat.{ℕ, _+_, _-_, _*_, _≤_}
 use native.Mathlib.Omega.{arith}
@@ -9,10 +8,9 @@ use lib.Dec.{leb, eqb}
 use lib.ListN.{length}
 use Rattle.kinds.proofs.Questions.{yes, sure}
 use Rattle.kinds.specs.Rounding.{isRounding}
-use Rattle.words.specs.Word.{readsAt}
-use Rattle.cutter.specs.Map.{plt1, trailerAt, distanceOf, widthOf, depthOf, stepOf, radiusOf}
+use Rattle.cutter.specs.Map.{distanceOf, widthOf, depthOf, stepOf, radiusOf}
 use Rattle.cutter.specs.List.{listLength}
-use Rattle.cutter.specs.Call.{within, heightsWithin, listRefusal}
+use Rattle.cutter.specs.Call.{isLettered, isSized, isStepped, isLong, heightsWithin, hasRoom, listRefusal}
 use Rattle.cutter.specs.Asked.{trailerOf, Sizes, Steps, Heights, Ready}
 use Rattle.cutter.specs.declared.trailer.Trailer.{Trailer}
 use Rattle.cutter.proofs.Questions.{both-are, sizes-are, steps-are, heights-small}
@@ -33,12 +31,12 @@ accepted-of rounding m room e =
     let d : ℕ = depthOf m in
     let a2 = yes (isRounding rounding) 1 _ e in
     let a5 = yes (leb 16 (length m)) 4 _ (a2 .1) in
-    let a6 = yes (readsAt m (trailerAt m) plt1) 5 _ (a5 .1) in
-    let a7 = yes (within 3 64 w && within 3 64 d) 6 _ (a6 .1) in
-    let a8 = yes (within 1 10000 (stepOf m) && within 1 12500 (radiusOf m)) 7 _ (a7 .1) in
-    let a9 = yes (eqb (distanceOf m) (4 * (w * d)) && eqb (length m) (4 * (w * d) + 16)) 8 _ (a8 .1) in
+    let a6 = yes (isLettered m) 5 _ (a5 .1) in
+    let a7 = yes (isSized w d) 6 _ (a6 .1) in
+    let a8 = yes (isStepped (stepOf m) (radiusOf m)) 7 _ (a7 .1) in
+    let a9 = yes (isLong (distanceOf m) (length m) (w * d)) 8 _ (a8 .1) in
     let a10 = yes (heightsWithin m (w * d)) 9 _ (a9 .1) in
-    let a11 = yes (leb (listLength m) room) 10 0 (a10 .1) in
+    let a11 = yes (hasRoom m room) 10 0 (a10 .1) in
     let nine = both-are (eqb (distanceOf m) (4 * (w * d))) (eqb (length m) (4 * (w * d) + 16)) (sure _ (a9 .0)) in
     let long : length m ≡ 4 * (w * d) + 16 = eqb-true (length m) (4 * (w * d) + 16) (nine .1) in
     record {

@@ -1,37 +1,26 @@
 -- A centre depends on its own height, the differences of its four neighbours, its place, step and radius, and on nothing else of the map. Assumes nothing.
-use mathlib.Core.Path.{_≡_, ap}
+use mathlib.Core.Path.{_≡_}
 use mathlib.Core.List.{List}
-use Prim.Native.Nat.{ℕ, _+_, _-_, _*_, _/_, _%_, _≤_, _<_}
+use Prim.Native.Nat.{ℕ, _+_, _-_, _*_, _/_, _≤_, _<_}
 use native.Mathlib.Omega.{arith}
 use lib.ListN.{length, getD, set, length-set}
 use lib.Seq.{getD-set-other}
 use Rattle.kinds.specs.Rounding.{Mode}
 use Rattle.words.specs.Word.{halfAt, wordAt}
-use Rattle.cutter.specs.Map.{widthOf, stepOf, radiusOf, heightAt, acrossAt, alongAt}
-use Rattle.cutter.specs.Centre.{pointAt, recordBytes}
-use Rattle.cutter.specs.List.{centreAt, recordAt}
-
--- the column and the row of the inner point n of a map that is w wide
-abbrev columnOf : ℕ → ℕ → ℕ
-columnOf w n = n % (w - 2) + 1
-
-abbrev rowOf : ℕ → ℕ → ℕ
-rowOf w n = n / (w - 2) + 1
+use Rattle.cutter.specs.Map.{widthOf, stepOf, radiusOf, heightAt, dxAt, dyAt}
+use Rattle.cutter.specs.Centre.{pointAt}
+use Rattle.cutter.specs.List.{columnOf, rowOf, centreAt, recordAt}
 
 -- two maps: the centres at two of their points are the same where the places, the heights, the differences, the steps and the radii are
 pub same-centre : (mode : Mode) (m l : List ℕ) (n k : ℕ)
     → stepOf m ≡ stepOf l → radiusOf m ≡ radiusOf l
     → columnOf (widthOf m) n ≡ columnOf (widthOf l) k → rowOf (widthOf m) n ≡ rowOf (widthOf l) k
     → heightAt m (widthOf m) (columnOf (widthOf m) n) (rowOf (widthOf m) n) ≡ heightAt l (widthOf l) (columnOf (widthOf l) k) (rowOf (widthOf l) k)
-    → acrossAt m (widthOf m) (columnOf (widthOf m) n) (rowOf (widthOf m) n) ≡ acrossAt l (widthOf l) (columnOf (widthOf l) k) (rowOf (widthOf l) k)
-    → alongAt m (widthOf m) (columnOf (widthOf m) n) (rowOf (widthOf m) n) ≡ alongAt l (widthOf l) (columnOf (widthOf l) k) (rowOf (widthOf l) k)
+    → dxAt m (widthOf m) (columnOf (widthOf m) n) (rowOf (widthOf m) n) ≡ dxAt l (widthOf l) (columnOf (widthOf l) k) (rowOf (widthOf l) k)
+    → dyAt m (widthOf m) (columnOf (widthOf m) n) (rowOf (widthOf m) n) ≡ dyAt l (widthOf l) (columnOf (widthOf l) k) (rowOf (widthOf l) k)
     → centreAt mode m n ≡ centreAt mode l k
 unfolding centreAt pointAt
-same-centre mode m l n k step radius column row height across along = cc
-
-pub same-record : (mode : Mode) (m l : List ℕ) (n k : ℕ) → centreAt mode m n ≡ centreAt mode l k → recordAt mode m n ≡ recordAt mode l k
-unfolding recordAt
-same-record mode m l n k e = ap recordBytes e
+same-centre mode m l n k step radius column row height dx dy = cc
 
 -- ---- one byte changed elsewhere
 
@@ -72,7 +61,7 @@ pub record Elsewhere (w c q k : ℕ) : Type 0 where
 
 module _ (m : List ℕ) (i b : ℕ) where
   point-kept : (w c q : ℕ) → Elsewhere w c q (i / 4) → pointAt (set m i b) w c q ≡ pointAt m w c q
-  unfolding pointAt acrossAt alongAt heightAt
+  unfolding pointAt dxAt dyAt heightAt
   point-kept w c q h =
       cc (
         word-kept m i b (q * w + c) (h .here),

@@ -13,12 +13,12 @@ use lib.ListN.{length}
 use lib.IntN.{natAbs}
 use borrow.Author.Tests.{not-true, not-false, leb-true, eqb-true, le-leb, lt-leb}
 use Rattle.kinds.specs.Question.{ask}
-use Rattle.words.specs.Word.{wordAt, readsAt}
+use Rattle.words.specs.Word.{wordAt}
 use Rattle.words.specs.Signed.{signed}
 use Rattle.words.proofs.Differences.{either, signed-within}
-use Rattle.cutter.specs.Map.{plt1, trailerAt, distanceOf, widthOf, depthOf, stepOf, radiusOf}
+use Rattle.cutter.specs.Map.{distanceOf, widthOf, depthOf, stepOf, radiusOf}
 use Rattle.cutter.specs.List.{listLength}
-use Rattle.cutter.specs.Call.{within, heightsWithin, listRefusal}
+use Rattle.cutter.specs.Call.{within, isLettered, isSized, isStepped, isLong, heightsWithin, listRefusal}
 use Rattle.cutter.specs.Asked.{trailerOf, Sizes, Steps, heightsRefusal, trailerRefusal}
 use Rattle.cutter.specs.declared.trailer.Trailer.{Trailer}
 
@@ -63,14 +63,14 @@ within-is low high x e =
     let p = both-are (leb low x) (leb x high) e in
     (leb-true low x (p .0), leb-true x high (p .1))
 
-pub sizes-are : (w d : ℕ) → within 3 64 w && within 3 64 d ≡ true → Sizes w d
+pub sizes-are : (w d : ℕ) → isSized w d ≡ true → Sizes w d
 sizes-are w d e =
     let p = both-are (within 3 64 w) (within 3 64 d) e in
     let x = within-is 3 64 w (p .0) in
     let y = within-is 3 64 d (p .1) in
     record { wide = x .0; narrow = x .1; deep = y .0; shallow = y .1 }
 
-pub steps-are : (step radius : ℕ) → within 1 10000 step && within 1 12500 radius ≡ true → Steps step radius
+pub steps-are : (step radius : ℕ) → isStepped step radius ≡ true → Steps step radius
 steps-are step radius e =
     let p = both-are (within 1 10000 step) (within 1 12500 radius) e in
     let x = within-is 1 10000 step (p .0) in
@@ -123,20 +123,20 @@ ask-yes t n rest k e f = cc
 
 module _ (m : List ℕ) (t : Trailer) (room : ℕ) where
   pub nine : (r : Bool) → t ≡ trailerOf m
-      → r ≡ eqb (t .distance) (4 * (t .width * t .depth)) && eqb (length m) (4 * (t .width * t .depth) + 16) → not r ≡ true
+      → r ≡ isLong (t .distance) (length m) (t .width * t .depth) → not r ≡ true
       → 9 ≡ heightsRefusal m room
   unfolding heightsRefusal trailerOf ask
   nine r e f n = cc (not-true r n)
 
   pub ten : (r s : Bool) → t ≡ trailerOf m
-      → r ≡ eqb (t .distance) (4 * (t .width * t .depth)) && eqb (length m) (4 * (t .width * t .depth) + 16) → not r ≡ false
+      → r ≡ isLong (t .distance) (length m) (t .width * t .depth) → not r ≡ false
       → s ≡ heightsWithin m (t .width * t .depth) → not s ≡ true
       → 10 ≡ heightsRefusal m room
   unfolding heightsRefusal trailerOf ask
   ten r s e f n g o = cc (not-false r n, not-true s o)
 
   pub eleven : (r s : Bool) → t ≡ trailerOf m
-      → r ≡ eqb (t .distance) (4 * (t .width * t .depth)) && eqb (length m) (4 * (t .width * t .depth) + 16) → not r ≡ false
+      → r ≡ isLong (t .distance) (length m) (t .width * t .depth) → not r ≡ false
       → s ≡ heightsWithin m (t .width * t .depth) → not s ≡ false
       → room < 12 * ((t .width - 2) * (t .depth - 2)) + 16
       → 11 ≡ heightsRefusal m room
@@ -144,7 +144,7 @@ module _ (m : List ℕ) (t : Trailer) (room : ℕ) where
   eleven r s e f n g o h = cc (not-false r n, not-false s o, lt-leb (12 * ((t .width - 2) * (t .depth - 2)) + 16) room h)
 
   pub none : (r s : Bool) → t ≡ trailerOf m
-      → r ≡ eqb (t .distance) (4 * (t .width * t .depth)) && eqb (length m) (4 * (t .width * t .depth) + 16) → not r ≡ false
+      → r ≡ isLong (t .distance) (length m) (t .width * t .depth) → not r ≡ false
       → s ≡ heightsWithin m (t .width * t .depth) → not s ≡ false
       → 12 * ((t .width - 2) * (t .depth - 2)) + 16 ≤ room
       → 0 ≡ heightsRefusal m room
@@ -152,38 +152,38 @@ module _ (m : List ℕ) (t : Trailer) (room : ℕ) where
   none r s e f n g o h = cc (not-false r n, not-false s o, le-leb (12 * ((t .width - 2) * (t .depth - 2)) + 16) room h)
 
   -- the heights are there to be read
-  pub heights-there : (r : Bool) (n : ℕ) → r ≡ eqb (t .distance) (4 * n) && eqb (length m) (4 * n + 16) → not r ≡ false
+  pub heights-there : (r : Bool) (n : ℕ) → r ≡ isLong (t .distance) (length m) n → not r ≡ false
       → 4 * n ≤ length m
   heights-there r n f h =
       let p = both-are (eqb (t .distance) (4 * n)) (eqb (length m) (4 * n + 16)) (sym f ∙ not-false r h) in
       omega (arith, eqb-true (length m) (4 * n + 16) (p .1))
 
-  pub six : (r : Bool) → r ≡ readsAt m (length m - 16) plt1 → not r ≡ true → 6 ≡ trailerRefusal m room
+  pub six : (r : Bool) → r ≡ isLettered m → not r ≡ true → 6 ≡ trailerRefusal m room
   unfolding trailerRefusal ask
-  six r f n = ask-no (readsAt m (trailerAt m) plt1) 6 _ (sym f ∙ not-true r n)
+  six r f n = ask-no (isLettered m) 6 _ (sym f ∙ not-true r n)
 
-  pub seven : (r s : Bool) → r ≡ readsAt m (length m - 16) plt1 → not r ≡ false → t ≡ trailerOf m
-      → s ≡ within 3 64 (t .width) && within 3 64 (t .depth) → not s ≡ true → 7 ≡ trailerRefusal m room
+  pub seven : (r s : Bool) → r ≡ isLettered m → not r ≡ false → t ≡ trailerOf m
+      → s ≡ isSized (t .width) (t .depth) → not s ≡ true → 7 ≡ trailerRefusal m room
   unfolding trailerRefusal trailerOf ask
   seven r s f n e g o =
-      ask-yes (readsAt m (trailerAt m) plt1) 6 _ 7 (sym f ∙ not-false r n) (cc (not-true s o))
+      ask-yes (isLettered m) 6 _ 7 (sym f ∙ not-false r n) (cc (not-true s o))
 
-  pub eight : (r s u : Bool) → r ≡ readsAt m (length m - 16) plt1 → not r ≡ false → t ≡ trailerOf m
-      → s ≡ within 3 64 (t .width) && within 3 64 (t .depth) → not s ≡ false
-      → u ≡ within 1 10000 (t .step) && within 1 12500 (t .radius) → not u ≡ true → 8 ≡ trailerRefusal m room
+  pub eight : (r s u : Bool) → r ≡ isLettered m → not r ≡ false → t ≡ trailerOf m
+      → s ≡ isSized (t .width) (t .depth) → not s ≡ false
+      → u ≡ isStepped (t .step) (t .radius) → not u ≡ true → 8 ≡ trailerRefusal m room
   unfolding trailerRefusal trailerOf ask
   eight r s u f n e g o h p =
-      ask-yes (readsAt m (trailerAt m) plt1) 6 _ 8 (sym f ∙ not-false r n) (cc (not-false s o, not-true u p))
+      ask-yes (isLettered m) 6 _ 8 (sym f ∙ not-false r n) (cc (not-false s o, not-true u p))
 
-  pub later : (r s u : Bool) (k : ℕ) → r ≡ readsAt m (length m - 16) plt1 → not r ≡ false → t ≡ trailerOf m
-      → s ≡ within 3 64 (t .width) && within 3 64 (t .depth) → not s ≡ false
-      → u ≡ within 1 10000 (t .step) && within 1 12500 (t .radius) → not u ≡ false
+  pub later : (r s u : Bool) (k : ℕ) → r ≡ isLettered m → not r ≡ false → t ≡ trailerOf m
+      → s ≡ isSized (t .width) (t .depth) → not s ≡ false
+      → u ≡ isStepped (t .step) (t .radius) → not u ≡ false
       → k ≡ heightsRefusal m room → k ≡ trailerRefusal m room
   unfolding trailerRefusal trailerOf ask
   later r s u k f n e g o h p l =
-      ask-yes (readsAt m (trailerAt m) plt1) 6 _ k (sym f ∙ not-false r n) (cc (not-false s o, not-false u p))
+      ask-yes (isLettered m) 6 _ k (sym f ∙ not-false r n) (cc (not-false s o, not-false u p))
 
-  pub sizes-told : (s : Bool) → s ≡ within 3 64 (t .width) && within 3 64 (t .depth) → not s ≡ false → Sizes (t .width) (t .depth)
+  pub sizes-told : (s : Bool) → s ≡ isSized (t .width) (t .depth) → not s ≡ false → Sizes (t .width) (t .depth)
   sizes-told s e n = sizes-are (t .width) (t .depth) (sym e ∙ not-false s n)
 
 module _ (rounding : ℕ) (m : List ℕ) (room : ℕ) where

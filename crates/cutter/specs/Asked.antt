@@ -1,17 +1,14 @@
 -- What the code knows of a map once its questions are asked, and the questions in the groups in which it asks them. Assumes nothing.
-use Prim.Native.Nat.{ℕ, _+_, _*_, _≤_, _<_}
+use Prim.Native.Nat.{ℕ, _*_, _≤_, _<_}
 use mathlib.Core.Path.{_≡_}
-use mathlib.Core.Bool.{_&&_}
 use mathlib.Core.List.{List}
-use lib.Dec.{leb, eqb}
 use lib.ListN.{length}
 use lib.IntN.{natAbs}
 use Rattle.kinds.specs.Question.{ask}
-use Rattle.words.specs.Word.{wordAt, readsAt}
+use Rattle.words.specs.Word.{wordAt}
 use Rattle.words.specs.Signed.{signed}
-use Rattle.cutter.specs.Map.{plt1, trailerAt, distanceOf, widthOf, depthOf, stepOf, radiusOf}
-use Rattle.cutter.specs.List.{listLength}
-use Rattle.cutter.specs.Call.{within, heightsWithin}
+use Rattle.cutter.specs.Map.{distanceOf, widthOf, depthOf, stepOf, radiusOf}
+use Rattle.cutter.specs.Call.{isLettered, isSized, isStepped, isLong, heightsWithin, hasRoom}
 use Rattle.cutter.specs.declared.trailer.Trailer.{Trailer}
 
 -- the fields of a map's trailer, the letters left out
@@ -55,15 +52,15 @@ pub record Ready (m : List ℕ) (t : Trailer) : Type 0 where
 -- questions 9 to 11
 unfoldable pub heightsRefusal : List ℕ → ℕ → ℕ
 heightsRefusal m room =
-    ask (eqb (distanceOf m) (4 * (widthOf m * depthOf m)) && eqb (length m) (4 * (widthOf m * depthOf m) + 16)) 9
+    ask (isLong (distanceOf m) (length m) (widthOf m * depthOf m)) 9
     (ask (heightsWithin m (widthOf m * depthOf m)) 10
-    (ask (leb (listLength m) room) 11
+    (ask (hasRoom m room) 11
     0))
 
 -- questions 6 to 11
 unfoldable pub trailerRefusal : List ℕ → ℕ → ℕ
 trailerRefusal m room =
-    ask (readsAt m (trailerAt m) plt1) 6
-    (ask (within 3 64 (widthOf m) && within 3 64 (depthOf m)) 7
-    (ask (within 1 10000 (stepOf m) && within 1 12500 (radiusOf m)) 8
+    ask (isLettered m) 6
+    (ask (isSized (widthOf m) (depthOf m)) 7
+    (ask (isStepped (stepOf m) (radiusOf m)) 8
     (heightsRefusal m room)))

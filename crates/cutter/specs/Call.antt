@@ -17,22 +17,42 @@ use Rattle.cutter.specs.List.{listLength, listBytes}
 abbrev pub within : ℕ → ℕ → ℕ → Bool
 within low high x = leb low x && leb x high
 
+-- question 6: do the trailer's letters read PLT1?
+abbrev pub isLettered : List ℕ → Bool
+isLettered m = readsAt m (trailerAt m) plt1
+
+-- question 7: are w and d each 3 to 64?
+abbrev pub isSized : ℕ → ℕ → Bool
+isSized w d = within 3 64 w && within 3 64 d
+
+-- question 8: is the step 1 to 10,000 and the radius 1 to 12,500?
+abbrev pub isStepped : ℕ → ℕ → Bool
+isStepped step radius = within 1 10000 step && within 1 12500 radius
+
+-- question 9, heights being w·d: is the distance back 4·w·d, and the map that plus 16 bytes long?
+abbrev pub isLong : ℕ → ℕ → ℕ → Bool
+isLong distance long heights = eqb distance (4 * heights) && eqb long (4 * heights + 16)
+
 -- question 10 of the first n heights: is each from −50,000 to 50,000?
 unfoldable pub heightsWithin : List ℕ → ℕ → Bool
 heightsWithin m zero = true
 heightsWithin m (suc n) = heightsWithin m n && leb (natAbs (signed (wordAt m (4 * n)))) 50000
 
--- the number of the first question that is answered "no", or 0; the lent buffer has room for so many bytes
+-- question 11: does the lent buffer, with room for so many bytes, hold the list?
+abbrev pub hasRoom : List ℕ → ℕ → Bool
+hasRoom m room = leb (listLength m) room
+
+-- the number of the first question that is answered "no", or 0
 unfoldable pub listRefusal : ℕ → List ℕ → ℕ → ℕ
 listRefusal rounding m room =
     ask (isRounding rounding) 2
     (ask (leb 16 (length m)) 5
-    (ask (readsAt m (trailerAt m) plt1) 6
-    (ask (within 3 64 (widthOf m) && within 3 64 (depthOf m)) 7
-    (ask (within 1 10000 (stepOf m) && within 1 12500 (radiusOf m)) 8
-    (ask (eqb (distanceOf m) (4 * (widthOf m * depthOf m)) && eqb (length m) (4 * (widthOf m * depthOf m) + 16)) 9
+    (ask (isLettered m) 6
+    (ask (isSized (widthOf m) (depthOf m)) 7
+    (ask (isStepped (stepOf m) (radiusOf m)) 8
+    (ask (isLong (distanceOf m) (length m) (widthOf m * depthOf m)) 9
     (ask (heightsWithin m (widthOf m * depthOf m)) 10
-    (ask (leb (listLength m) room) 11
+    (ask (hasRoom m room) 11
     0)))))))
 
 -- the length reported: that of the list, and 0 after a "no"

@@ -6,7 +6,7 @@ use Rattle.kinds.specs.Rounding.{Mode}
 use Rattle.words.specs.Word.{wordBytes}
 use Rattle.words.specs.Signed.{wordOf}
 use Rattle.cutter.specs.Offset.{squaredLength, offsetOf}
-use Rattle.cutter.specs.Map.{heightAt, acrossAt, alongAt}
+use Rattle.cutter.specs.Map.{heightAt, dxAt, dyAt}
 
 -- a point of the surface: its column and row, its height, and the differences dx and dy there
 pub record Point : Type 0 where
@@ -34,7 +34,7 @@ centreOf mode step radius p =
 
 -- the point of a map that is w wide at column c and row q
 unfoldable pub pointAt : List ℕ → ℕ → ℕ → ℕ → Point
-pointAt m w c q = record { column = c; row = q; height = heightAt m w c q; dx = acrossAt m w c q; dy = alongAt m w c q }
+pointAt m w c q = record { column = c; row = q; height = heightAt m w c q; dx = dxAt m w c q; dy = dyAt m w c q }
 
 -- a record of a list: x, y and z, four bytes each, signed
 unfoldable pub recordBytes : Centre → List ℕ

@@ -5,3 +5,4 @@ pub mod List
 pub mod Call
 pub mod Agree
 pub mod Asked
+pub mod Rows

@@ -15,9 +15,16 @@ cut1 = 67 ∷ 85 ∷ 84 ∷ 49 ∷ []
 abbrev pub countOf : ℕ → ℕ → ℕ
 countOf w d = (w - 2) * (d - 2)
 
--- the inner point n of a map, counted from 0, row by row
+-- the column and the row of the inner point n, counted from 0, row by row, of a map that is w wide
+abbrev pub columnOf : ℕ → ℕ → ℕ
+columnOf w n = n % (w - 2) + 1
+
+abbrev pub rowOf : ℕ → ℕ → ℕ
+rowOf w n = n / (w - 2) + 1
+
+-- that point of a map
 abbrev pub innerPoint : List ℕ → ℕ → Point
-innerPoint m n = pointAt m (widthOf m) (n % (widthOf m - 2) + 1) (n / (widthOf m - 2) + 1)
+innerPoint m n = pointAt m (widthOf m) (columnOf (widthOf m) n) (rowOf (widthOf m) n)
 
 -- its centre
 unfoldable pub centreAt : Mode → List ℕ → ℕ → Centre

@@ -41,8 +41,8 @@ unfoldable pub heightAt : List ℕ → ℕ → ℕ → ℕ → ℤ
 heightAt m w c q = signed (wordAt m (4 * (q * w + c)))
 
 -- dx is the right height less the left, dy the height of row q + 1 less that of row q − 1
-unfoldable pub acrossAt : List ℕ → ℕ → ℕ → ℕ → ℤ
-acrossAt m w c q = heightAt m w (c + 1) q -ℤ heightAt m w (c - 1) q
+unfoldable pub dxAt : List ℕ → ℕ → ℕ → ℕ → ℤ
+dxAt m w c q = heightAt m w (c + 1) q -ℤ heightAt m w (c - 1) q
 
-unfoldable pub alongAt : List ℕ → ℕ → ℕ → ℕ → ℤ
-alongAt m w c q = heightAt m w c (q + 1) -ℤ heightAt m w c (q - 1)
+unfoldable pub dyAt : List ℕ → ℕ → ℕ → ℕ → ℤ
+dyAt m w c q = heightAt m w c (q + 1) -ℤ heightAt m w c (q - 1)

@@ -12,7 +12,7 @@ use Rattle.words.specs.Signed.{withSign, isNegative}
 abbrev pub squaredLength : ℤ → ℤ → ℕ → ℕ
 squaredLength dx dy step = natAbs dx * natAbs dx + natAbs dy * natAbs dy + 4 * step * step
 
--- n over √q, floored: the greatest whole t with t²·q ≤ n²
+-- n over √q, floored: the greatest whole t below 2^32 with t²·q ≤ n²
 unfoldable pub floorOver : ℕ → ℕ → ℕ
 floorOver n q = greatest 32 (λ (t : ℕ). leb (t * t * q) (n * n))
 
@@ -33,9 +33,3 @@ offsetOf mode component radius q =
 pub record MultipleOf (w n : ℕ) : Type 0 where
   pub quotient : ℕ
   pub is : quotient * w ≡ n
-
--- q is a perfect square whose root divides n
-pub record DividedBy (q n : ℕ) : Type 0 where
-  pub root : ℕ
-  pub square : root * root ≡ q
-  pub multiple : MultipleOf root n

@@ -1,13 +1,12 @@
 // The questions that the list call asks, in their order.
 ghost use mathlib.Core.Path.{_≡_};
-ghost use mathlib.Core.Bool.{_&&_};
 ghost use Prim.Native.Nat.{_+_, _*_, _≤_};
 ghost use lib.ListN.{length};
-ghost use lib.Dec.{leb, eqb};
+ghost use lib.Dec.{leb};
 ghost use lib.IntN.{natAbs};
 ghost use Rattle.words.specs.Word.{wordAt};
 ghost use Rattle.words.specs.Signed.{signed};
-ghost use Rattle.cutter.specs.Call.{within, heightsWithin, listRefusal};
+ghost use Rattle.cutter.specs.Call.{isSized, isStepped, isLong, heightsWithin, listRefusal};
 ghost use Rattle.cutter.specs.Asked.{trailerOf, Sizes, trailerRefusal, heightsRefusal};
 use crate::trailer::Trailer;
 use crate::trailer::read_trailer;
@@ -67,13 +66,13 @@ fn heights_no(map: &[u8], trailer: Trailer, room: usize) -> u8
 }
 
 fn sizes_hold(width: usize, depth: usize) -> bool
-    ensures { λ r. ⌜ r ≡ (within 3 64 width && within 3 64 depth) ⌝ }
+    ensures { λ r. ⌜ r ≡ isSized width depth ⌝ }
 {
     ((3 <= width) & (width <= 64)) & ((3 <= depth) & (depth <= 64))
 }
 
 fn steps_hold(step: u64, radius: u64) -> bool
-    ensures { λ r. ⌜ r ≡ (within 1 10000 step && within 1 12500 radius) ⌝ }
+    ensures { λ r. ⌜ r ≡ isStepped step radius ⌝ }
 {
     ((1 <= step) & (step <= 10000)) & ((1 <= radius) & (radius <= 12500))
 }
@@ -81,7 +80,7 @@ fn steps_hold(step: u64, radius: u64) -> bool
 // Whether the heights reach from the distance back to the trailer.
 fn long_enough(distance: u64, length: usize, count: usize) -> bool
     requires { ⌜ count ≤ 4096 ⌝ }
-    ensures { λ r. ⌜ r ≡ (eqb distance (4 * count) && eqb length (4 * count + 16)) ⌝ }
+    ensures { λ r. ⌜ r ≡ isLong distance length count ⌝ }
 {
     (distance == (4 * count) as u64) & (length == 4 * count + 16)
 }

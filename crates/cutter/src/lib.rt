@@ -1,3 +1,3 @@
-// A map: its trailer, and the questions that a list call asks of it.
+// The cutter list: what a map, an offset, a centre and a list are. The code reads a map's trailer and asks its questions.
 pub mod door;
 pub mod trailer;

@@ -1,7 +1,19 @@
--- What a rounding does with the two bits that say a place. Assumes nothing.
+-- What a rounding does with the two bits that say a place, and that its result is at most the next neighbour. Assumes nothing.
 use mathlib.Core.Path.{_≡_, refl}
 use mathlib.Core.Bool.{Bool, true, false, cond, not, _&&_, _||_}
-use Rattle.kinds.specs.Rounding.{Mode, nearest, up, down, towardZero, away, placeOf}
+use Prim.Native.Nat.{ℕ, suc, _%_, _≤_}
+use native.Mathlib.Omega.{arith}
+use lib.Dec.{eqb}
+use Rattle.kinds.specs.Rounding.{Mode, nearest, up, down, towardZero, Place, away, placeOf, roundedBy}
+
+-- the result is at most the next neighbour
+pub next-most : (mode : Mode) (negative : Bool) (t : ℕ) (place : Place) → roundedBy mode negative t place ≤ suc t
+unfolding roundedBy
+next-most mode negative t place = go (away mode negative (eqb (t % 2) 1) place)
+  where
+    go : (b : Bool) → cond b (suc t) t ≤ suc t
+    go true = omega arith
+    go false = omega arith
 
 module _ (negative odd : Bool) where
   pub nearest-is : (half more : Bool) → half && (more || odd) ≡ away nearest negative odd (placeOf half more)

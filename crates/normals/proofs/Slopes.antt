@@ -1,8 +1,8 @@
--- Heights and their differences, as the code has them. Assumes nothing.
+-- Heights and their differences, as the code has them, the places around an inner point, and the normal there. Assumes nothing.
 use mathlib.Core.Path.{_≡_, sym, ap, ap₂, _∙_}
 use mathlib.Core.List.{List}
 use Prim.Native.Nat.{ℕ, suc, _+_, _-_, _*_, _%_, _≤_, _<_}
-use native.Mathlib.Nat.{mul-comm, suc-mul, mul-le-mul, mul-le-mul-right}
+use native.Mathlib.Nat.{mul-comm, suc-mul, mul-le-mul-right}
 use native.Mathlib.Omega.{arith}
 use mir.Val.{Fits}
 use mir.Syntax.{w64}
@@ -12,9 +12,8 @@ use Rattle.words.specs.Signed.{signed}
 use Rattle.words.specs.Parts.{partsOf}
 use Rattle.words.specs.declared.Signed.{Signed}
 use Rattle.words.proofs.Differences.{signed-raised, within-raised, diff-sub, diff-eq, diff-abs}
-use Rattle.cutter.specs.Map.{heightAt, acrossAt, alongAt}
+use Rattle.cutter.specs.Map.{Inner, heightAt, dxAt, dyAt}
 use Rattle.cutter.specs.Asked.{Heights, Sizes}
-use Rattle.cutter.specs.Map.{Inner}
 use Rattle.normals.specs.Normal.{NormalOf}
 use Rattle.cutter.proofs.Questions.{size-most}
 
@@ -96,17 +95,17 @@ neg-sub : (a b : ℤ) → negℤ (a -ℤ b) ≡ b -ℤ a
 neg-sub a b = negℤ-+ℤ a (negℤ b) ∙ ap (λ (z : ℤ). negℤ a +ℤ z) (negℤ-negℤ b) ∙ +ℤ-comm (negℤ a) b
 
 module _ (m : List ℕ) (w d c q : ℕ) (h : Inner w d c q) where
-  across-is : negℤ (acrossAt m w c q) ≡ signed (wordAt m (4 * (q * w + c - 1))) -ℤ signed (wordAt m (4 * (q * w + c + 1)))
-  unfolding acrossAt heightAt
-  across-is =
+  dx-is : negℤ (dxAt m w c q) ≡ signed (wordAt m (4 * (q * w + c - 1))) -ℤ signed (wordAt m (4 * (q * w + c + 1)))
+  unfolding dxAt heightAt
+  dx-is =
       let e : q * w + (c - 1) ≡ q * w + c - 1 = omega (arith, h .left) in
       let f : q * w + (c + 1) ≡ q * w + c + 1 = omega arith in
       neg-sub (signed (wordAt m (4 * (q * w + (c + 1))))) (signed (wordAt m (4 * (q * w + (c - 1)))))
       ∙ ap₂ (λ (x y : ℕ). signed (wordAt m (4 * x)) -ℤ signed (wordAt m (4 * y))) e f
 
-  along-is : negℤ (alongAt m w c q) ≡ signed (wordAt m (4 * (q * w + c - w))) -ℤ signed (wordAt m (4 * (q * w + c + w)))
-  unfolding alongAt heightAt
-  along-is =
+  dy-is : negℤ (dyAt m w c q) ≡ signed (wordAt m (4 * (q * w + c - w))) -ℤ signed (wordAt m (4 * (q * w + c + w)))
+  unfolding dyAt heightAt
+  dy-is =
       let p : q ≡ suc (q - 1) = omega (arith, h .above) in
       let r : q * w ≡ suc (q - 1) * w = ap (λ (x : ℕ). x * w) p in
       let e : (q - 1) * w + c ≡ q * w + c - w = omega (arith, suc-mul (q - 1) w) in
@@ -118,10 +117,6 @@ module _ (m : List ℕ) (w d c q : ℕ) (h : Inner w d c q) where
 pub normal-is : (m : List ℕ) (w d c q l : ℕ) (x y : Signed) → Inner w d c q
     → x ≡ partsOf (signed (wordAt m (4 * (q * w + c - 1))) -ℤ signed (wordAt m (4 * (q * w + c + 1))))
     → y ≡ partsOf (signed (wordAt m (4 * (q * w + c - w))) -ℤ signed (wordAt m (4 * (q * w + c + w))))
-    → NormalOf (acrossAt m w c q) (alongAt m w c q) (record { x = x; y = y; squared = l })
+    → NormalOf (dxAt m w c q) (dyAt m w c q) (record { x = x; y = y; squared = l })
 normal-is m w d c q l x y h ex ey =
-    record { x = ex ∙ ap partsOf (sym (across-is m w d c q h)); y = ey ∙ ap partsOf (sym (along-is m w d c q h)) }
-
--- a square and its bound
-pub square-most : {x k : ℕ} → x ≤ k → x * x ≤ k * k
-square-most h = mul-le-mul h h
+    record { x = ex ∙ ap partsOf (sym (dx-is m w d c q h)); y = ey ∙ ap partsOf (sym (dy-is m w d c q h)) }

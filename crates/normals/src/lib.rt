@@ -1,13 +1,12 @@
 // Heights of a map and the normal at a point.
 ghost use mathlib.Core.Path.{_≡_};
-ghost use Prim.Native.Nat.{_+_, _-_, _*_, _≤_, _<_};
+ghost use Prim.Native.Nat.{_+_, _*_, _≤_, _<_};
 ghost use lib.IntN.{_-ℤ_};
 ghost use Rattle.words.specs.Word.{wordAt};
 ghost use Rattle.words.specs.Signed.{signed};
 ghost use Rattle.words.specs.Parts.{partsOf};
-ghost use Rattle.cutter.specs.Map.{acrossAt, alongAt};
+ghost use Rattle.cutter.specs.Map.{Inner, dxAt, dyAt};
 ghost use Rattle.cutter.specs.Asked.{Heights, Ready};
-ghost use Rattle.cutter.specs.Map.{Inner};
 ghost use Rattle.normals.specs.Normal.{NormalOf, Measured};
 use cutter::trailer::Trailer;
 use words::Signed;
@@ -47,7 +46,7 @@ pub struct Normal {
 pub fn normal_at(map: &[u8], trailer: Trailer, column: usize, row: usize) -> Normal
     requires { ⌜ Ready (now map) trailer ⌝ }
     requires { ⌜ Inner (trailer .width) (trailer .depth) column row ⌝ }
-    ensures { λ r. ⌜ NormalOf (acrossAt (now (map .entry)) (trailer .width) column row) (alongAt (now (map .entry)) (trailer .width) column row) r × Measured r (trailer .step) ⌝ }
+    ensures { λ r. ⌜ NormalOf (dxAt (now (map .entry)) (trailer .width) column row) (dyAt (now (map .entry)) (trailer .width) column row) r × Measured r (trailer .step) ⌝ }
 {
     let width = trailer.width;
     let count = width * trailer.depth;

@@ -1,4 +1,4 @@
--- `greatest` gives the greatest number below 2^n that passes; and the squares' test, which every table and root here uses.
+-- `greatest` gives the greatest number below 2^n that passes; and the squares' test, which roots and offsets use.
 -- Assumes nothing.
 use mathlib.Core.Path.{_≡_, refl, subst, sym, ap, _∙_}
 use mathlib.Core.Bool.{Bool, true, false}

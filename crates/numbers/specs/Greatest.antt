@@ -12,6 +12,6 @@ unfoldable pub greatestFrom : (ℕ → Bool) → ℕ → ℕ → ℕ
 greatestFrom test zero w = w
 greatestFrom test (suc n) w = greatestFrom test n (keep (test (w + 2 ^ n)) (w + 2 ^ n) w)
 
--- the greatest number below 2^n that passes a test which holds below wherever it holds
+-- the greatest number below 2^n that passes a test; the test passes 0, and passes every number below one that it passes
 unfoldable pub greatest : ℕ → (ℕ → Bool) → ℕ
 greatest n test = greatestFrom test n 0

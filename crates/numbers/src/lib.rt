@@ -1,1 +1,1 @@
-// Whole numbers: the greatest that passes a test, tables, polynomials, powers and squares. Definitions and laws only, no code.
+// Whole numbers: the greatest that passes a test, polynomials, powers and squares. Definitions and laws only, no code.

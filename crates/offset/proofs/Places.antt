@@ -2,17 +2,18 @@
 -- place. Assumes nothing.
 use Prim.Native.Nat.{ℕ, suc, _+_, _*_, _/_, _%_, _≤_, _<_}
 use mathlib.Core.Path.{_≡_, refl, ap, _∙_, subst}
-use mathlib.Core.Bool.{Bool, true, false, cond, not}
+use mathlib.Core.Bool.{Bool, true, false, not}
 use mathlib.Core.List.{[], _∷_}
 use mathlib.Core.Logic.{by-cases}
 use native.Mathlib.Nat.{div-add-mod, mod-lt, mul-div-le, mul-div-right, lt-mul-div-succ, div-lt-iff-lt-mul, mul-le-mul, mul-le-mul-right, mul-le-mul-left}
 use native.Mathlib.Decide.{decLt}
 use native.Mathlib.Omega.{arith}
 use borrow.Author.Tests.{lt-ltb, le-ltb, eq-eqb, ne-eqb}
-use lib.Dec.{eqb, leb, le→leb, leb→le}
+use lib.Dec.{eqb, le→leb, leb→le}
 use mir.Syntax.{w64}
 use mir.Val.{Fits}
-use Rattle.kinds.specs.Rounding.{Mode, Place, exact, away, placeBy, placeOf, roundedBy}
+use Rattle.kinds.specs.Rounding.{Mode, exact, away, placeBy, placeOf, roundedBy}
+use Rattle.kinds.proofs.Neighbours.{next-most}
 use Rattle.numbers.proofs.Greatest.{greatest-is, squareFits, square-antitone}
 use Rattle.numbers.proofs.Ring.{v, #, _⊕_, _⊗_, _⊙_⊑_, nlin}
 use Rattle.cutter.specs.Offset.{floorOver, placeOver, roundedOver}
@@ -86,15 +87,7 @@ module _ (n q floor left : ℕ) (sizes : Sizes n q) (doubled : DoubledOver n q f
   unfolding roundedOver
   rounded-is mode negative r e = rw (floor-is, place-is n q floor left (sizes .least) doubled) e
 
--- one more than the lower neighbour at most
-next-most : (mode : Mode) (negative : Bool) (t : ℕ) (place : Place) → roundedBy mode negative t place ≤ suc t
-unfolding roundedBy
-next-most mode negative t place = go (away mode negative (eqb (t % 2) 1) place)
-  where
-    go : (b : Bool) → cond b (suc t) t ≤ suc t
-    go true = omega arith
-    go false = omega arith
-
+-- at the lower neighbour every rounding takes it
 exact-stays : (mode : Mode) (negative : Bool) (t : ℕ) → roundedBy mode negative t exact ≡ t
 unfolding roundedBy away
 exact-stays mode negative t = refl

@@ -1,5 +1,4 @@
--- Where the search for 2n over √q begins: at n·low over 2^shift, floored, which is the floor or one below it.
--- Assumes nothing.
+-- The start for 2n over √q: n·low over 2^shift, floored, is its floor or one below it. Assumes nothing.
 use Prim.Native.Nat.{ℕ, _+_, _*_, _/_, _^_, _≤_, _<_}
 use mathlib.Core.List.{List, [], _∷_}
 use mathlib.Core.Logic.{by-cases}

@@ -17,7 +17,7 @@ restOf towardZero negative = 2
 unfoldable pub stepped : ℕ → ℕ → ℕ → ℕ → ℕ → ℕ
 stepped t m tie n q = cond (ltb (m * m * q) (4 * (n * n) + tie)) (t + 1) t
 
--- the same from the start; a magnitude that reaches the limit goes on toward zero, and to the nearest where that is even
+-- the same from the start; where m²·q is 4·n² exactly, t + 1 is taken toward zero, and to the nearest where t + 1 is even
 unfoldable pub settledBy : ℕ → ℕ → ℕ → ℕ → ℕ
 settledBy rest start n q =
     let t = (start + (2 - rest) / 2) / 2 in

@@ -72,8 +72,8 @@ fn rest_if(inward: bool) -> u64
     if inward { 2 } else { 0 }
 }
 
-// From a start that is 2n over √q, floored, or one below it: t is the magnitude or one below it, and one test decides. A magnitude that
-// reaches the limit goes on toward zero, and to the nearest where that is even.
+// From a start that is 2n over √q, floored, or one below it: t is the magnitude or one below it, and one test decides. Where m²·q is
+// 4·n² exactly, t + 1 is taken toward zero, and to the nearest where t + 1 is even.
 fn settled(rest: u64, start: u64, n: u64, q: u64) -> u64
     requires { ⌜ rest ≤ 2 ⌝ }
     requires { ⌜ Sizes n q × (start * start * q ≤ 4 * (n * n)) ⌝ }

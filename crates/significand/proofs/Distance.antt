@@ -2,16 +2,14 @@
 -- times the exact value, for every digit size k from 7 up and any number t of bits below the three digits. Assumes nothing.
 use mathlib.Core.Path.{subst, sym}
 use mathlib.Core.Bool.{Bool}
-use mathlib.Core.List.{[], _∷_}
 use Prim.Native.Nat.{ℕ, _+_, _*_, _-_, _^_, _≤_, _<_}
 use native.Mathlib.Nat.{mul-sub}
 use native.Mathlib.Omega.{arith}
 use Rattle.kinds.specs.Operation.{Op, reciprocal, root, inverseRoot}
-use Rattle.numbers.proofs.Exponents.{power-of}
 use Rattle.significand.specs.Steps.{indexOf, factorOf, signOf, reducedOf, seriesOf, multiplierOf, rawOf}
 use Rattle.significand.specs.Distance.{Significand, Over, Near, distanceOf}
 use Rattle.significand.proofs.Close.{Close, series-close}
-use Rattle.significand.proofs.Scale.{whole-is, whole-least, over-least, under-most, under-less, over-more}
+use Rattle.significand.proofs.Scale.{whole-is, whole-least, over-least, under-less, over-more}
 use Rattle.significand.proofs.General.{reachOf, general}
 use Rattle.significand.proofs.Reduction.{least, most, reduced-small, reduced}
 use Rattle.significand.proofs.Sums.{pointOf, summed}
@@ -46,7 +44,7 @@ module _ (op : Op) (k t y p : ℕ) (h : 7 ≤ k) (e : p ≤ 1) (Y : Significand 
       (multiplies k r p e (least k t y h Y) (most k t y h Y) op) close
 
 -- the distances promised are no less than those of the general law, and at most 12
-pub promised : (op : Op) → (reachOf op ≤ distanceOf op) × (distanceOf op ≤ 12)
+promised : (op : Op) → (reachOf op ≤ distanceOf op) × (distanceOf op ≤ 12)
 promised reciprocal = omega arith
 promised root = omega arith
 promised inverseRoot = omega arith
@@ -66,19 +64,6 @@ module _ (op : Op) (k t y p : ℕ) (h : 7 ≤ k) (e : p ≤ 1) (Y : Significand 
         under = under-less op k (3 * k + t - 1) y p (g - reachOf op) (g - distanceOf op) (omega (arith, promised op)) (near .under);
         over = over;
       }
-
-  -- so g is from 2^(4k − 1) to 2^(4k + 1), but for that distance
-  pub answer-least : 2 ^ (4 * k) < 2 * (rawOf k t op y p + distanceOf op)
-  answer-least = over-least k t y p (g + distanceOf op) h e Y op (distance .over)
-
-  pub answer-most : rawOf k t op y p < 2 ^ (4 * k + 1) + distanceOf op
-  answer-most =
-      omega (
-        arith,
-        under-most k t y p (g - distanceOf op) h e Y op (distance .under),
-        distance .enough,
-        power-of (4 * k + 1) (1 ∷ 4 * k ∷ []) (omega arith),
-      )
 
 -- The three by themselves, written out. Here m = 3k + t − 1.
 module _ (k t y : ℕ) (h : 7 ≤ k) (Y : Significand k t y) where

@@ -1,5 +1,5 @@
--- The unit's powers of two over k, t and p, and what is under or over the exact value: such a number is from 2^(4k − 1) to 2^(4k + 1).
--- Assumes nothing.
+-- The unit's powers of two over k, t and p. What is over the exact value is above 2^(4k − 1), and what is further under or over it than a
+-- number that is, is so too. Assumes nothing.
 use mathlib.Core.Path.{_≡_, ap}
 use mathlib.Core.List.{[], _∷_}
 use Prim.Native.Nat.{ℕ, _+_, _*_, _-_, _^_, _≤_, _<_}
@@ -92,19 +92,6 @@ module _ (k t y p x : ℕ) (h : 7 ≤ k) (e : p ≤ 1) (Y : Significand k t y) w
       let i : N * N * P < 2 * x * (2 * x) * P =
       omega (arith, square-scale k m, mul-le-mul-left (2 * x * x) top, mul-le-mul-left (x * x * y) (parity-most p e), o) in
       square-below N (2 * x) (lt-of-mul-lt-mul-right P i)
-
-  pub under-most : (op : Op) → Under op k (3 * k + t - 1) y p x → x < 2 * N
-  under-most reciprocal u =
-      let i : x * y < N * y = omega (arith, quotient-scale k m, mul-le-mul-left N (Y .least), u) in
-      omega (arith, lt-of-mul-lt-mul-right y i)
-  under-most root u =
-      let i : x * x * P < 2 * N * (2 * N) * P =
-      omega (arith, radicand, mul-le-mul-left (2 * N * N) top, mul-le-mul-left (N * N * y) (parity-most p e), u) in
-      square-below x (2 * N) (lt-of-mul-lt-mul-right P i)
-  under-most inverseRoot u =
-      let i : x * x * y < N * N * y =
-      omega (arith, square-scale k m, mul-le-mul-left (N * N) (Y .least), mul-le-mul-left (x * x * y) (pow-pos p), u) in
-      omega (arith, square-below x N (lt-of-mul-lt-mul-right y i))
 
 -- what is less than a number under the exact value is under it too, and what is more than one over it is over it
 pub under-less : (op : Op) (k m y p x z : ℕ) → z ≤ x → Under op k m y p x → Under op k m y p z

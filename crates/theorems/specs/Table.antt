@@ -3,8 +3,8 @@ use mathlib.Core.Path.{_≡_}
 use Prim.Native.Nat.{ℕ, _+_, _%_, _≤_}
 use lib.Bits.{bitOr}
 use Rattle.kinds.specs.Flag.{noFlag, overflow, inexact}
-use Rattle.significand.proofs.Rows.{Worked}
-use Rattle.cutter.proofs.Rows.{OffsetRow}
+use Rattle.significand.specs.Rows.{Worked}
+use Rattle.cutter.specs.Rows.{OffsetRow}
 use Rattle.plate.specs.declared.Status.{Status}
 use Rattle.plate.specs.Raw.{rawCall}
 use Rattle.plate.specs.Binary32.{binary32Call}

@@ -1,4 +1,5 @@
--- A signed number as the difference of two naturals: an equation of such differences is one of naturals. Assumes nothing.
+-- A signed number as the difference of two naturals: an equation of such differences is one of naturals. Its sign and magnitude; its word,
+-- and the word of a sum; and the word of a number near 0, raised by 50,000. Assumes nothing.
 use mathlib.Core.Path.{_≡_, refl, sym, ap, ap₂, _∙_}
 use mathlib.Core.Bool.{Bool, true, false}
 use Prim.Native.Nat.{ℕ, zero, suc, _+_, _-_, _%_, _≤_, _<_}
@@ -8,7 +9,7 @@ use native.Mathlib.Omega.{arith}
 use borrow.Author.Tests.{lt-ltb, le-ltb, le-leb, lt-leb}
 use lib.Dec.{leb}
 use lib.IntN.{ℤ, pos, negsuc, negℤ, natAbs, subℕ, _+ℤ_, _-ℤ_}
-use Rattle.words.specs.Signed.{signed, wordOf, withSign, isNegative}
+use Rattle.words.specs.Signed.{signed, wordOf, withSign}
 use Rattle.words.specs.Parts.{partsOf}
 
 -- one order or the other
@@ -79,12 +80,7 @@ parts-lt a b h =
     let e : suc (b - suc a) ≡ b - a = omega arith in
     sym (ap partsOf (diff-lt a b h) ∙ cc)
 
--- taken apart and put together again
-pub parts-back : (z : ℤ) → withSign (isNegative z) (natAbs z) ≡ z
-unfolding withSign
-parts-back (pos n) = refl
-parts-back (negsuc n) = refl
-
+-- the magnitude, whatever the sign
 pub abs-sign : (t : Bool) (g : ℕ) → natAbs (withSign t g) ≡ g
 unfolding withSign
 abs-sign false g = refl
@@ -127,10 +123,10 @@ unfolding signed
 signed-small u h = simp (lt-ltb u 2147483648 h)
 
 -- the words of a word's number with a difference added
-lifted-by : (u a b : ℕ) → u < 4294967296 → a < 2147483648 → b < 2147483648
+wrapped-by : (u a b : ℕ) → u < 4294967296 → a < 2147483648 → b < 2147483648
     → wordOf (signed u +ℤ subℕ a b) ≡ (u + a + 4294967296 - b) % 4294967296
 unfolding signed wordOf
-lifted-by u a b hu ha hb =
+wrapped-by u a b hu ha hb =
     either u 2147483648
     (λ k.
     let e : signed u ≡ subℕ u 4294967296 = simp (le-ltb u 2147483648 k) in
@@ -146,23 +142,23 @@ lifted-by u a b hu ha hb =
     ∙ diff-word (u + a) (0 + b) (omega arith) (omega arith)
     ∙ omega arith)
 
-pub lifted-less : (t : Bool) (u m : ℕ) → u < 4294967296 → m < 2147483648 → t ≡ true
+pub wrapped-less : (t : Bool) (u m : ℕ) → u < 4294967296 → m < 2147483648 → t ≡ true
     → (u + 4294967296 - m) % 4294967296 ≡ wordOf (signed u +ℤ withSign t m)
 unfolding withSign
-lifted-less t u m hu hm e =
+wrapped-less t u m hu hm e =
     let f : (u + 4294967296 - m) % 4294967296 ≡ (u + 0 + 4294967296 - m) % 4294967296 = omega arith in
     f
-    ∙ sym (lifted-by u 0 m hu (omega arith) hm)
+    ∙ sym (wrapped-by u 0 m hu (omega arith) hm)
     ∙ ap (λ (z : ℤ). wordOf (signed u +ℤ z)) (sym (neg-pos m))
     ∙ ap (λ (t : Bool). wordOf (signed u +ℤ withSign t m)) (sym e)
 
-pub lifted-more : (t : Bool) (u m : ℕ) → u < 4294967296 → m < 2147483648 → t ≡ false
+pub wrapped-more : (t : Bool) (u m : ℕ) → u < 4294967296 → m < 2147483648 → t ≡ false
     → (u + m) % 4294967296 ≡ wordOf (signed u +ℤ withSign t m)
 unfolding withSign
-lifted-more t u m hu hm e =
+wrapped-more t u m hu hm e =
     let f : (u + m) % 4294967296 ≡ (u + m + 4294967296 - 0) % 4294967296 = omega arith in
     f
-    ∙ sym (lifted-by u m 0 hu hm (omega arith))
+    ∙ sym (wrapped-by u m 0 hu hm (omega arith))
     ∙ ap (λ (z : ℤ). wordOf (signed u +ℤ z)) (sym (diff-pos m))
     ∙ ap (λ (t : Bool). wordOf (signed u +ℤ withSign t m)) (sym e)
 

@@ -1,5 +1,5 @@
 -- Laws of bytes put over bytes: stores in a row are one splice, two splices that touch are one, and what was put is read again. Assumes nothing.
-use mathlib.Core.Path.{_≡_, refl, sym, ap, _∙_}
+use mathlib.Core.Path.{_≡_, sym, ap, _∙_}
 use mathlib.Core.List.{List, [], _∷_, _++_, append-assoc}
 use Prim.Native.Nat.{ℕ, _+_, _*_, _/_, _%_, _≤_, _<_}
 use native.Mathlib.Nat.{add-assoc, zero-add, div-div-eq-div-mul, div-add-mod', mod-eq-of-lt, div-lt-iff-lt-mul, div-eq-of-lt, add-mul-div-right, add-mul-mod-self-left}
@@ -61,10 +61,6 @@ three-words at x y z l l₁ l₂ l₃ h e₁ e₂ e₃ =
     ∙ ap (splice (at + 8) (wordBytes z))
     (e₂ ∙ ap (splice (at + 4) (wordBytes y)) e₁ ∙ splice-splice at (wordBytes x) (wordBytes y) l (omega arith))
     ∙ splice-splice at (wordBytes x ++ wordBytes y) (wordBytes z) l (omega arith)
-
-pub length-word : (x : ℕ) → length (wordBytes x) ≡ 4
-unfolding wordBytes
-length-word x = refl
 
 -- two numbers of 16 bits put as one of 32
 pub pair-bytes : (a b : ℕ) → a < 65536 → b < 65536 → wordBytes (a + 65536 * b) ≡ halfBytes a ++ halfBytes b

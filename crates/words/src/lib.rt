@@ -106,7 +106,7 @@ pub fn difference(a: u64, b: u64) -> Signed
 }
 
 // The word of a word's number with a signed number added.
-pub fn lifted(u: u64, s: Signed) -> u64
+pub fn wrapping_add_signed(u: u64, s: Signed) -> u64
     requires { ⌜ (u < 4294967296) × (s .magnitude < 2147483648) ⌝ }
     ensures { λ r. ⌜ r ≡ wordOf (signed u +ℤ withSign (s .negative) (s .magnitude)) ⌝ }
 {

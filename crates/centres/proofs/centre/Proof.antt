@@ -23,20 +23,20 @@ mul-height-word-2 c = search needs
 height-word-requires : tie.Need-height-word-requires
 height-word-requires c κs = (search (place-in, needs), search needs)
 
-mul-lifted : tie.Need-mul-lifted
-mul-lifted c = search coordinate-fits
+mul-wrapping-add-signed : tie.Need-mul-wrapping-add-signed
+mul-wrapping-add-signed c = search coordinate-fits
 
-lifted-requires : tie.Need-lifted-requires
-lifted-requires c κs = (search coordinate-small, search needs)
+wrapping-add-signed-requires : tie.Need-wrapping-add-signed-requires
+wrapping-add-signed-requires c κs = (search coordinate-small, search needs)
 
-mul-lifted-2 : tie.Need-mul-lifted-2
-mul-lifted-2 c = search coordinate-fits
+mul-wrapping-add-signed-2 : tie.Need-mul-wrapping-add-signed-2
+mul-wrapping-add-signed-2 c = search coordinate-fits
 
-lifted-requires-2 : tie.Need-lifted-requires-2
-lifted-requires-2 c κs = (search coordinate-small, search needs)
+wrapping-add-signed-requires-2 : tie.Need-wrapping-add-signed-requires-2
+wrapping-add-signed-requires-2 c κs = (search coordinate-small, search needs)
 
-lifted-requires-3 : tie.Need-lifted-requires-3
-lifted-requires-3 c κs = search needs
+wrapping-add-signed-requires-3 : tie.Need-wrapping-add-signed-requires-3
+wrapping-add-signed-requires-3 c κs = search needs
 
 returns : tie.Need-returns
 returns c = search centre-is
@@ -51,9 +51,9 @@ centre-spec =
     add-height-word
     mul-height-word-2
     height-word-requires
-    mul-lifted
-    lifted-requires
-    mul-lifted-2
-    lifted-requires-2
-    lifted-requires-3
+    mul-wrapping-add-signed
+    wrapping-add-signed-requires
+    mul-wrapping-add-signed-2
+    wrapping-add-signed-requires-2
+    wrapping-add-signed-requires-3
     returns)

@@ -1,0 +1,15 @@
+-- A row of document 01's table, step by step. Assumes nothing.
+use mathlib.Core.Path.{_≡_}
+use mathlib.Core.Bool.{false}
+use Prim.Native.Nat.{_*_}
+use Rattle.kinds.specs.Operation.{reciprocal}
+use Rattle.significand.specs.Steps.{indexOf, factorOf, signOf, reducedOf, seriesOf}
+use Rattle.significand.specs.Call.{rawAnswer}
+
+-- R, the sign s, a, b and the answer of the reciprocal of y = 12,582,912 (Y = 1.5)
+pub record Worked : Type 0 where
+  pub factor : factorOf 7 (indexOf 7 3 12582912) ≡ 170
+  pub sign : signOf 7 3 (12582912 * 170) ≡ false
+  pub reduced : reducedOf 7 3 (12582912 * 170) ≡ 1048576
+  pub series : seriesOf 7 reciprocal false 1048576 ≡ 269488144
+  pub answer : rawAnswer 1 12582912 0 ≡ 178956970
