@@ -39,7 +39,7 @@ impl Status {
     pub fn clear(self) -> Status
         ensures { λ r. ⌜ r ≡ cleared ⌝ }
     {
-        Status { flags: 0 }
+        Status::new()
     }
 }
 
