@@ -1,5 +1,4 @@
--- The reply of the list call, and its length as a number of 32 bits. Assumes nothing.
-use mathlib.Core.Path.{_≡_, ap}
+-- The length that the list call reports is a number of 32 bits. Assumes nothing.
 use mathlib.Core.List.{List}
 use mathlib.Core.Logic.{by-cases}
 use Prim.Native.Nat.{ℕ, _^_, _<_}
@@ -7,19 +6,13 @@ use native.Mathlib.Decide.{ℕ-discrete}
 use native.Mathlib.Omega.{arith}
 use lib.ListN.{length}
 use borrow.Author.Tests.{eq-eqb, ne-eqb}
-use Rattle.listing.specs.declared.Listed.{Listed}
+use Rattle.listing.specs.declared.ListReply.{ListReply}
 use Rattle.cutter.specs.Map.{widthOf, depthOf}
 use Rattle.cutter.specs.List.{listLength}
-use Rattle.cutter.specs.Call.{listRefusal, listAnswer, bufferAfter}
-use Rattle.listing.specs.Reply.{listReply as listedReply}
+use Rattle.cutter.specs.Call.{listRefusal, listAnswer}
 use Rattle.cutter.proofs.Questions.{count-most}
 use Rattle.cutter.proofs.Accepted.{accepted-of}
-use Rattle.plate.specs.declared.ListReply.{ListReply}
 use Rattle.plate.specs.List.{ListCall}
-
-pub listed : (rounding : ℕ) (m before after : List ℕ) (r : Listed) → r ≡ listedReply rounding m (length before) → after ≡ bufferAfter rounding m before
-    → ListCall rounding m before (record { refusal = r .refusal; length = r .length }) after
-listed rounding m before after r e f = record { answers = ap (λ (x : Listed). record { refusal = x .refusal; length = x .length }) e; leaves = f }
 
 -- a list is short
 pub length-small : (rounding : ℕ) (m : List ℕ) (room : ℕ) → listAnswer rounding m room < 2 ^ 32
