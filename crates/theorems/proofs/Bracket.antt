@@ -36,7 +36,7 @@ binary32-bracket operation operand a b lower upper e f r s p l =
     let known : T (isOperation operation) =
     yes (isOperation operation) 0 (ask (isRounding 2) 2 0) (sym (ap (λ (x : Binary32Reply). x .refusal) e) ∙ r) .0 in
     let k = call-bracket operation known operand p l in
-    rw (e, f) (record { equal = k .equal; next = k .next-unless })
+    rw (e, f) (record { equal = k .equal; next = k .next })
 
 -- two accepted calls with the same map, whatever the two lent buffers held
 pub list-calls-bracket : (m a b lowest uppermost : List ℕ) (lower upper : ListReply)

@@ -4,7 +4,7 @@ use mathlib.Core.Logic.{_↔_}
 use mathlib.Core.List.{List}
 use Prim.Native.Nat.{ℕ, suc, _<_}
 use lib.ListN.{take}
-use lib.IntN.{ℤ, pos, _+ℤ_}
+use lib.IntN.{pos, _+ℤ_}
 use Rattle.kinds.specs.Operation.{opOf}
 use Rattle.ieee.specs.Format.{binary32, magnitudeOf}
 use Rattle.ieee.specs.Agree.{Agree}
