@@ -7,7 +7,7 @@ use native.Mathlib.Decide.{decLt, ℕ-discrete}
 use native.Mathlib.Omega.{arith}
 use borrow.Author.Tests.{lt-ltb, le-ltb, le-leb, lt-leb, eq-eqb, ne-eqb}
 use lib.Dec.{eqb, ltb, leb}
-use Rattle.kinds.specs.Operation.{Op, reciprocal, root, inverseRoot, opOf, isReciprocal}
+use Rattle.kinds.specs.Operation.{Op, inverseRoot, opOf, isReciprocal}
 use Rattle.kinds.specs.Flag.{invalid}
 use Rattle.kinds.proofs.Questions.{reciprocal-named}
 use Rattle.ieee.specs.Format.{binary32, infinity, quietNaN}
