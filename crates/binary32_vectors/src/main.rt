@@ -1,14 +1,15 @@
 // Reads lines of operation, rounding, bits and status, the bits in hexadecimal and the others in decimal, and writes for each what the
 // binary32 call gives: the refusal, the bits and the status.
+ghost use Prim.Native.Nat.{_≤_, _<_};
+ghost use lib.ListN.{length};
+use libc::STDIN_FILENO;
 use libc::STDOUT_FILENO;
 use lines::byte;
 use lines::number_at;
-ghost use Prim.Native.Nat.{_≤_, _<_};
-ghost use lib.ListN.{length};
 
 fn main() {
     let mut text = [0u8; 262144];
-    let n = io::read_full(0, &mut text);
+    let n = io::read_full(STDIN_FILENO, &mut text);
     answer_all(&text[..n]);
 }
 

@@ -69,7 +69,7 @@ fn digit(b: u8) -> u64
     }
 }
 
-// A number as a byte; one that is too large is 255, which no question takes.
+// A number as a byte; one that is too large is 255.
 pub fn byte(x: u64) -> u8 {
     if x < 256 { x as u8 } else { 255 }
 }

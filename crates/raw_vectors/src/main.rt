@@ -1,11 +1,12 @@
 // Reads lines of operation, significand and parity, in decimal, and writes for each what the raw call gives: the refusal and the answer.
-use libc::STDOUT_FILENO;
 ghost use Prim.Native.Nat.{_≤_, _<_};
 ghost use lib.ListN.{length};
+use libc::STDIN_FILENO;
+use libc::STDOUT_FILENO;
 
 fn main() {
     let mut text = [0u8; 262144];
-    let n = io::read_full(0, &mut text);
+    let n = io::read_full(STDIN_FILENO, &mut text);
     answer_all(&text[..n]);
 }
 
