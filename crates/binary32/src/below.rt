@@ -21,7 +21,7 @@ pub fn below(operation: Operation, exponent: u32, fraction: u32) -> Neighbour
     inverse_root(exponent, fraction)
 }
 
-// With X = y / 2^23 × 2^e, e = exponent − 149, the reciprocal is 1 / (y / 2^23) × 2^-e.
+// With X = y / 2^23 × 2^e, e = x.exponent − 149, the reciprocal is 1 / (y / 2^23) × 2^-e.
 fn reciprocal(exponent: u32, fraction: u32) -> Neighbour
     requires { ⌜ Ordinary exponent fraction ⌝ }
     ensures { λ r. ⌜ BelowResult Op·reciprocal exponent fraction r ⌝ }

@@ -37,11 +37,6 @@ start-high reciprocal g = omega arith
 start-high root g = omega arith
 start-high inverseRoot g = omega arith
 
-spread-pos : (op : Op) → 0 < spreadOf op
-spread-pos reciprocal = omega arith
-spread-pos root = omega arith
-spread-pos inverseRoot = omega arith
-
 -- a number below or above the exact result, in the raw unit's steps, is so by its side
 under-side : (op : Op) (y p v : ℕ) → p ≤ 1 → Under op 7 23 y p v → side op y v < spreadOf op * targetOf op y p
 under-side reciprocal y p v h u = omega arith

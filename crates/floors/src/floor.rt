@@ -1,6 +1,6 @@
 // Floors with one guard bit: from a raw answer, which starts at or below the floor, step by step up to it. A remainder decides each step.
 ghost use mathlib.Core.Path.{_≡_};
-ghost use Prim.Native.Nat.{_+_, _*_, _^_, _≤_, _<_};
+ghost use Prim.Native.Nat.{_^_, _≤_, _<_};
 ghost use Rattle.kinds.specs.Operation.{reciprocal as Op·reciprocal, root as Op·root, inverseRoot as Op·inverseRoot};
 ghost use Rattle.significand.specs.Distance.{Near};
 ghost use Rattle.floors.specs.Floor.{Reached, Stepped, targetOf, remainderOf};

@@ -2,7 +2,7 @@
 -- Assumes nothing.
 use mathlib.Core.Path.{_≡_, ap}
 use mathlib.Core.Bool.{false}
-use mathlib.Core.Logic.{_↔_, by-cases}
+use mathlib.Core.Logic.{by-cases}
 use Prim.Native.Nat.{ℕ, suc, _<_}
 use native.Mathlib.Decide.{ℕ-discrete}
 use native.Mathlib.Omega.{arith}
@@ -15,16 +15,11 @@ use Rattle.ieee.specs.Rounded.{side, limit, lowerOf, placeAt, roundedOf}
 use Rattle.ieee.specs.Answer.{Answer, answerOf}
 use Rattle.ieee.specs.Call.{binary32Bits}
 use Rattle.ieee.specs.Agree.{Agree}
+use Rattle.ieee.specs.Bracket.{Bracket}
 use Rattle.ieee.proofs.Representable.{Regular}
 use Rattle.ieee.proofs.Exact.{reached-agrees, agree-reached}
 use Rattle.ieee.proofs.Accepted.{accepted, accepted-bits}
 use Rattle.ieee.proofs.Finite.{finite-answer}
-
--- two answers are equal exactly where `agree` holds, and otherwise the upper is the next pattern
-pub record Bracket (agree : Type 0) (lower upper : ℕ) : Type 0 where
-  pub equal : (lower ≡ upper) ↔ agree
-  pub next : (lower ≡ upper → ⊥) → upper ≡ suc lower
-  pub next-unless : (agree → ⊥) → upper ≡ suc lower
 
 module _ (f : Format) (op : Op) (x : ℕ) where
   -- the side reaches the limit at the lower neighbour
@@ -58,13 +53,12 @@ module _ (f : Format) (r : Regular f) (op : Op) (t : ℕ) (positive : 0 < t) (fi
       (λ e.
       let same : answerOf f op down t .bits ≡ answerOf f op up t .bits = cc (bits down, bits up, rounded-reached f op x down e, rounded-reached f op x up e) in
       let agree = reached-agrees f r t positive finite op e in
-      record { equal = (λ s. agree, λ a. same); next = λ h. absurd (h same); next-unless = λ h. absurd (h agree) })
+      record { equal = (λ s. agree, λ a. same); next = λ h. absurd (h agree) })
       (λ h.
       let next : answerOf f op up t .bits ≡ suc (answerOf f op down t .bits) = cc (bits down, bits up, lower f op x h, upper f op x h) in
       record {
         equal = (λ s. absurd (omega arith), λ a. absurd (h (agree-reached f r t positive finite op a)));
         next = λ s. next;
-        next-unless = λ s. next;
       })
 
 -- binary32 is such a format

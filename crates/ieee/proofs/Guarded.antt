@@ -93,10 +93,7 @@ module _ (f : Format) (op : Op) (x q : ℕ) (more : Bool) (k : ℕ) (pos : 0 < x
         (λ n. let s : a * 2 ^ w ≡ q = omega arith in
         by-cases (decLt (side op x (a * 2 ^ (k - 2))) l) (λ p. p) (λ p. absurd (not-same s (m s) (omega (arith, under h)))))
 
-  -- the levels of the lower neighbour and of the midpoint
-  whole-level : twice op ^ suc (2 - k) * limit (unitOf f) op x ≡ twice op ^ suc (2 - k) * limit (unitOf f) op x
-  whole-level = refl
-
+  -- the level of the midpoint
   half-level : twice op ^ (2 - k) * (twice op * limit (unitOf f) op x) ≡ twice op ^ suc (2 - k) * limit (unitOf f) op x
   half-level = rw (pow-suc (twice op) (2 - k)) (omega arith)
 
@@ -145,20 +142,20 @@ module _ (f : Format) (op : Op) (x q : ℕ) (more : Bool) (k : ℕ) (pos : 0 < x
       ≡ placeOf h s
   place-is false false p r =
       let s = not-sticky r in
-      place-exact _ _ _ _ (same (suc (2 - k)) (limit (unitOf f) op x) whole-level n (halved ∙ rw (← even-is p) (s .0)) (s .1))
+      place-exact _ _ _ _ (same (suc (2 - k)) (limit (unitOf f) op x) refl n (halved ∙ rw (← even-is p) (s .0)) (s .1))
   place-is false true p r =
       place-below _ _ _ _
-      (less (suc (2 - k)) (limit (unitOf f) op x) whole-level n (rw (halved, ← even-is p) kept-low)
+      (less (suc (2 - k)) (limit (unitOf f) op x) refl n (rw (halved, ← even-is p) kept-low)
       (λ e. sticky r (rw (even-is p) (sym halved ∙ e))))
       (over (2 - k) (twice op * limit (unitOf f) op x) half-level (2 * n + 1) (rw (← even-is p) (omega (arith, kept-high))))
   place-is true false p r =
       let s = not-sticky r in
       place-half _ _ _ _
-      (strictly (suc (2 - k)) (limit (unitOf f) op x) whole-level n (odd-under p))
+      (strictly (suc (2 - k)) (limit (unitOf f) op x) refl n (odd-under p))
       (same (2 - k) (twice op * limit (unitOf f) op x) half-level (2 * n + 1) (rw (← odd-is p) (s .0)) (s .1))
   place-is true true p r =
       place-above _ _ _ _
-      (strictly (suc (2 - k)) (limit (unitOf f) op x) whole-level n (odd-under p))
+      (strictly (suc (2 - k)) (limit (unitOf f) op x) refl n (odd-under p))
       (less (2 - k) (twice op * limit (unitOf f) op x) half-level (2 * n + 1) (rw (← odd-is p) kept-low) (λ e. sticky r (rw (odd-is p) e)))
 
   -- the pattern is at or below the exact result, and the next significand above it
@@ -168,12 +165,12 @@ module _ (f : Format) (op : Op) (x q : ℕ) (more : Bool) (k : ℕ) (pos : 0 < x
 
   reached : side op x (n * 2 ^ (k - 2)) ≤ limit (unitOf f) op x
   reached =
-      under (suc (2 - k)) (limit (unitOf f) op x) whole-level n
+      under (suc (2 - k)) (limit (unitOf f) op x) refl n
       (omega (arith, halved, kept-low, mul-le-mul-right (2 ^ (2 - k)) (n-bounds .0)))
 
   passed : limit (unitOf f) op x < side op x (suc n * 2 ^ (k - 2))
   passed =
-      over (suc (2 - k)) (limit (unitOf f) op x) whole-level (suc n)
+      over (suc (2 - k)) (limit (unitOf f) op x) refl (suc n)
       (omega (arith, halved, pow-suc 2 (2 - k), kept-high, mul-le-mul-right (2 ^ (2 - k)) (n-bounds .1)))
 
   -- the pattern
@@ -223,7 +220,7 @@ module _ (f : Format) (op : Op) (x q : ℕ) (more : Bool) (k : ℕ) (pos : 0 < x
   top-meets : (n < 2 ^ suc (f .fractionBits) → ⊥) → side op x (n * 2 ^ (k - 2)) ≡ limit (unitOf f) op x
   top-meets h =
       let e = top-kept h in
-      same (suc (2 - k)) (limit (unitOf f) op x) whole-level n (halved ∙ rw (← e .2) (e .1)) (g .top (e .0))
+      same (suc (2 - k)) (limit (unitOf f) op x) refl n (halved ∙ rw (← e .2) (e .1)) (g .top (e .0))
 
   -- so the next pattern is above the exact result
   passed-next : limit (unitOf f) op x < side op x (magnitudeOf f (suc t))

@@ -82,14 +82,9 @@ module _ (f : Format) where
   pub rising≤ : {s t : ℕ} → s ≤ t → magnitudeOf f s ≤ magnitudeOf f t
   rising≤ {s} {t} h = le-ind (λ (n : ℕ). magnitudeOf f s ≤ magnitudeOf f n) (omega arith) (λ n l p. omega (arith, rises n)) t h
 
-  -- so magnitudes order and tell apart the patterns
+  -- so magnitudes order the patterns
   pub rising-back : (s t : ℕ) → magnitudeOf f s < magnitudeOf f t → s < t
   rising-back s t h = by-cases (decLt s t) (λ l. l) (λ l. omega (arith, rising≤ {s = t} {t = s} (omega arith)))
-
-  pub same-pattern : (s t : ℕ) → magnitudeOf f s ≡ magnitudeOf f t → s ≡ t
-  same-pattern s t e =
-      by-cases (decLt s t) (λ l. omega (arith, rising l))
-      (λ l. by-cases (decLt t s) (λ k. omega (arith, rising k)) (λ k. omega arith))
 
   pub magnitude-zero : magnitudeOf f 0 ≡ 0
   magnitude-zero = magnitude-small 0 (omega arith)
@@ -130,10 +125,6 @@ module _ (f : Format) (op : Op) (x : ℕ) where
   pub le-fits : (v : ℕ) → side op x v ≤ limit (unitOf f) op x → T (fits f op x v)
   unfolding fits
   le-fits v h = le→leb (side op x v) (limit (unitOf f) op x) h
-
-  -- and with it every smaller one
-  pub fits-antitone : Antitone (fits f op x)
-  fits-antitone v w h t = le-fits v (le-trans (side-rising op x h) (fits-le w t))
 
   -- t is the lower neighbour of the exact result: finite, not above it, and the next pattern is above it or infinity
   pub record Lower (t : ℕ) : Type 0 where

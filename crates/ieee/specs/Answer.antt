@@ -8,6 +8,7 @@ use Rattle.kinds.specs.Flag.{noFlag, invalid, divisionByZero}
 use Rattle.ieee.specs.Format.{Format, signBit, infinity, quietNaN, magnitudeOf}
 use Rattle.ieee.specs.Rounded.{roundedOf, flagsOf}
 
+-- a pattern and the flags that its operation raises
 pub record Answer : Type 0 where
   pub bits : ℕ
   pub flags : ℕ
@@ -56,5 +57,6 @@ answerTo f op mode s t =
     (cond (eqb t (infinity f)) (toInfinity f op s)
     (toFinite f op mode s t))))
 
+-- what the operation answers to the pattern b
 unfoldable pub answerOf : Format → Op → Mode → ℕ → Answer
 answerOf f op mode b = answerTo f op mode (signOf f b) (unsigned f b)

@@ -3,4 +3,5 @@ pub mod Rounded
 pub mod Answer
 pub mod Call
 pub mod Agree
+pub mod Bracket
 pub mod Guarded

@@ -20,7 +20,7 @@ limit u reciprocal x = 2 ^ (2 * u)
 limit u root x = x * 2 ^ u
 limit u inverseRoot x = 2 ^ (3 * u)
 
--- how often the limit is taken for twice the exact result
+-- the factor by which the limit grows where the exact result is doubled
 abbrev pub twice : Op → ℕ
 twice reciprocal = 2
 twice root = 4

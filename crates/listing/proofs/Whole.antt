@@ -1,17 +1,16 @@
 -- The list of an accepted map, whole, and what the call answers. Assumes nothing.
-use mathlib.Core.Path.{_≡_, refl, sym, ap, ap₂, _∙_}
+use mathlib.Core.Path.{_≡_, sym, ap, ap₂, _∙_}
 use mathlib.Core.List.{List, _++_}
-use Prim.Native.Nat.{ℕ, suc, _+_, _-_, _*_, _≤_}
+use Prim.Native.Nat.{ℕ, _+_, _-_, _*_, _≤_}
 use native.Mathlib.Nat.{zero-add}
 use native.Mathlib.Omega.{arith}
 use borrow.Author.Tests.{eq-eqb, ne-eqb}
 use lib.ListN.{length}
-use Rattle.kinds.specs.Rounding.{Mode, modeOf}
+use Rattle.kinds.specs.Rounding.{modeOf}
 use Rattle.words.specs.Word.{wordBytes, halfBytes}
 use Rattle.words.specs.Splice.{splice}
 use Rattle.words.specs.Joined.{joined}
 use Rattle.words.proofs.Splicing.{splice-splice, pair-bytes}
-use Rattle.cutter.specs.Map.{widthOf, depthOf, stepOf, radiusOf}
 use Rattle.cutter.specs.List.{cut1, countOf, recordAt, trailerBytes, listLength, listBytes}
 use Rattle.cutter.specs.Call.{listRefusal, listAnswer, bufferAfter}
 use Rattle.cutter.specs.Asked.{trailerOf, Halves}

@@ -1,14 +1,14 @@
--- What the list call hands back, and the rows of a map's inner points. Assumes nothing.
+-- What the list call gives back, and the rows of a map's inner points. Assumes nothing.
 use Prim.Native.Nat.{ℕ, _+_, _*_}
 use mathlib.Core.List.{List}
 use Rattle.kinds.specs.Rounding.{Mode}
 use Rattle.words.specs.Joined.{joined}
 use Rattle.cutter.specs.List.{recordAt}
 use Rattle.cutter.specs.Call.{listRefusal, listAnswer}
-use Rattle.listing.specs.declared.Listed.{Listed}
+use Rattle.listing.specs.declared.ListReply.{ListReply}
 
--- the number of the first "no", or 0, and the length reported
-abbrev pub listReply : ℕ → List ℕ → ℕ → Listed
+-- the number of the first question answered "no", or 0, and the length reported, 0 after a "no"; the buffer has room for so many bytes
+abbrev pub listReply : ℕ → List ℕ → ℕ → ListReply
 listReply rounding m room = record { refusal = listRefusal rounding m room; length = listAnswer rounding m room }
 
 -- the record of point n of a row of k inner points, where row and n are counted from 0

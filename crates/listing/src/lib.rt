@@ -18,22 +18,22 @@ use words::pair;
 use words::put_four;
 use words::put_word;
 
-// What the list call hands back: the number of the first "no", or 0, and the length of the list.
-pub struct Listed {
+// What the list call gives back: refusal 0 with the length of the list; or the number of a question, with length 0.
+pub struct ListReply {
     pub refusal: u8,
     pub length: usize,
 }
 
 // The list of a map, put at the front of the buffer; after a "no" the buffer holds what it held.
-pub fn list(rounding: Rounding, map: &[u8], out: &mut [u8]) -> Listed
+pub fn list(rounding: Rounding, map: &[u8], out: &mut [u8]) -> ListReply
     ensures { λ r. ⌜ (r ≡ listReply (rounding .0) (now (map .entry)) (length (now (out .entry)))) × (now (out .exit) ≡ bufferAfter (rounding .0) (now (map .entry)) (now (out .entry))) ⌝ }
 {
     let refusal = first_no(rounding, map, out.len());
     if refusal != 0 {
-        return Listed { refusal, length: 0 };
+        return ListReply { refusal, length: 0 };
     }
     let length = put_list(rounding, map, out);
-    Listed { refusal, length }
+    ListReply { refusal, length }
 }
 
 // The list of an accepted map; its length.

@@ -3,7 +3,7 @@ ghost use mathlib.Core.Path.{_≡_};
 ghost use mathlib.Core.Bool.{cond};
 ghost use Prim.Native.Nat.{suc, _-_, _^_, _≤_, _<_, min};
 ghost use Rattle.kinds.specs.Rounding.{modeOf};
-ghost use Rattle.ieee.specs.Format.{binary32};
+ghost use Rattle.ieee.specs.Format.{binary32, infinity};
 ghost use Rattle.ieee.specs.Answer.{signed};
 ghost use Rattle.pattern.specs.Neighbour.{neighbourOf, roundedFrom};
 use crate::Rounded;
@@ -53,7 +53,7 @@ fn least(a: u64, b: u64) -> u64
 
 // The neighbour that the rounding takes, with its sign, and the flags.
 pub fn round(rounding: Rounding, sign: u32, n: Neighbour) -> Rounded
-    requires { ⌜ (sign < 2) × (n .pattern < 2139095040) ⌝ }
+    requires { ⌜ (sign < 2) × (n .pattern < infinity binary32) ⌝ }
     ensures { λ r. ⌜ r ≡ roundedFrom (modeOf (rounding .0)) sign n ⌝ }
 {
     let odd = n.pattern % 2 == 1;
@@ -74,8 +74,8 @@ pub fn round(rounding: Rounding, sign: u32, n: Neighbour) -> Rounded
 }
 
 fn next_if(away: bool, t: u32) -> u32
-    requires { ⌜ t < 2139095040 ⌝ }
-    ensures { λ r. ⌜ (r ≡ cond away (suc t) t) × (r ≤ 2139095040) ⌝ }
+    requires { ⌜ t < infinity binary32 ⌝ }
+    ensures { λ r. ⌜ (r ≡ cond away (suc t) t) × (r ≤ infinity binary32) ⌝ }
 {
     if away { t + 1 } else { t }
 }

@@ -1,15 +1,12 @@
 -- The answer by the operation's number, and the reply of a call that is refused or accepted. Assumes nothing.
 use mathlib.Core.Path.{_≡_}
-use Prim.Native.Nat.{ℕ, _+_, _*_}
-use native.Mathlib.Omega.{arith}
+use Prim.Native.Nat.{ℕ}
 use borrow.Author.Tests.{eq-eqb, ne-eqb}
 use Rattle.kinds.specs.Operation.{opOf, reciprocal, root, inverseRoot}
 use Rattle.significand.specs.Steps.{rawOf}
 use Rattle.significand.specs.Call.{rawRefusal, rawAnswer}
 use Rattle.significand.proofs.Accepted.{accepted}
-use Rattle.plate.specs.declared.RawReply.{RawReply}
 use Rattle.plate.specs.Raw.{rawCall}
-use Rattle.plate.specs.Packed.{packed}
 
 module _ (operation y p g : ℕ) where
   pub reciprocal-answer : rawRefusal operation y p ≡ 0 → operation ≡ 1 → g ≡ rawOf 7 3 reciprocal y 0 → g ≡ rawOf 7 3 (opOf operation) y p
@@ -29,8 +26,3 @@ module _ (operation y p n : ℕ) (e : n ≡ rawRefusal operation y p) where
   pub answered : (g : ℕ) → n ≡ 0 → g ≡ rawOf 7 3 (opOf operation) y p → record { refusal = n; answer = g } ≡ rawCall operation y p
   unfolding rawAnswer
   answered g z f = rw (← e, eq-eqb n 0 z, f)
-
--- the reply as one number
-pub raw-packed : (operation y p : ℕ) (r : RawReply) → r ≡ rawCall operation y p
-    → r .refusal * 1099511627776 + r .answer ≡ packed (rawRefusal operation y p) 0 (rawAnswer operation y p)
-raw-packed operation y p r e = rw e (omega arith)

@@ -1,23 +1,19 @@
 -- The reply of a binary32 call that is refused or accepted. Assumes nothing.
-use mathlib.Core.Path.{_≡_, ap}
-use Prim.Native.Nat.{ℕ, _+_, _*_, _%_}
+use mathlib.Core.Path.{_≡_}
+use Prim.Native.Nat.{ℕ}
 use native.Mathlib.Nat.{mod-eq-of-lt}
-use native.Mathlib.Omega.{arith}
-use lib.Bits.{bitOr}
 use borrow.Author.Tests.{eq-eqb, ne-eqb}
 use Rattle.kinds.specs.Operation.{opOf}
 use Rattle.kinds.specs.Rounding.{modeOf}
 use Rattle.ieee.specs.Format.{binary32}
-use Rattle.ieee.specs.Answer.{Answer, answerOf}
+use Rattle.ieee.specs.Answer.{answerOf}
 use Rattle.ieee.specs.Call.{binary32Refusal, binary32Bits, binary32Status}
 use Rattle.ieee.proofs.Flags.{flags-small}
 use Rattle.pattern.specs.declared.Rounded.{Rounded}
 use Rattle.pattern.specs.Neighbour.{roundedAnswer}
 use Rattle.plate.specs.declared.Status.{Status}
-use Rattle.plate.specs.declared.Binary32Reply.{Binary32Reply}
 use Rattle.plate.specs.Status.{raised}
 use Rattle.plate.specs.Binary32.{binary32Call}
-use Rattle.plate.specs.Packed.{packed}
 
 module _ (operation rounding b n : ℕ) (s : Status) (e : n ≡ binary32Refusal operation rounding) where
   pub refused : (n ≡ 0 → ⊥) → record { refusal = n; bits = 0; status = s } ≡ binary32Call operation rounding b s
@@ -30,9 +26,3 @@ module _ (operation rounding b n : ℕ) (s : Status) (e : n ≡ binary32Refusal 
   unfolding binary32Bits binary32Status
   answered r t z f g =
       rw (← e, eq-eqb n 0 z, g, f, mod-eq-of-lt (flags-small binary32 (opOf operation) (modeOf rounding) b))
-
--- the reply as one number
-pub rounded-packed : (operation rounding b : ℕ) (s : Status) (r : Binary32Reply) → r ≡ binary32Call operation rounding b s
-    → r .refusal * 1099511627776 + r .status .flags * 4294967296 + r .bits
-    ≡ packed (binary32Refusal operation rounding) (binary32Status operation rounding b (s .flags)) (binary32Bits operation rounding b)
-rounded-packed operation rounding b s r e = rw e (omega arith)

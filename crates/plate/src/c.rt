@@ -1,7 +1,6 @@
 // The calls for C: numbers in, and one number out, whose bits 0 to 31 are the answer, bits 32 to 39 the status, and the bits from 40 on
 // the number of the refusal.
 ghost use mathlib.Core.Path.{_≡_};
-ghost use Prim.Native.Nat.{_+_, _*_, _^_};
 ghost use lib.ListN.{length};
 ghost use Rattle.significand.specs.Call.{rawRefusal, rawAnswer};
 ghost use Rattle.ieee.specs.Call.{binary32Refusal, binary32Bits, binary32Status};
@@ -20,7 +19,7 @@ pub extern "C" fn plate_raw(operation: u8, significand: u32, parity: u8) -> u64
     ensures { λ r. ⌜ r ≡ packed (rawRefusal operation significand parity) 0 (rawAnswer operation significand parity) ⌝ }
 {
     let r = raw(Operation(operation), significand, parity);
-    (r.refusal as u64) * 1099511627776 + r.answer as u64
+    pack(r.refusal, 0, r.answer)
 }
 
 // The binary32 call.
@@ -34,14 +33,22 @@ pub extern "C" fn plate_binary32(operation: u8, rounding: u8, status: u8, bits: 
         bits,
         Status { flags: status },
     );
-    (r.refusal as u64) * 1099511627776 + (r.status.flags as u64) * 4294967296 + r.bits as u64
+    pack(r.refusal, r.status.flags, r.bits)
 }
 
 // The list call; it has no status either.
 #[no_mangle]
 pub extern "C" fn plate_list(rounding: u8, map: &[u8], buffer: &mut [u8]) -> u64
-    ensures { λ r. ⌜ (r ≡ packed (listRefusal rounding (now (map .entry)) (length (now (buffer .entry)))) 0 (listAnswer rounding (now (map .entry)) (length (now (buffer .entry))))) × (now (buffer .exit) ≡ bufferAfter rounding (now (map .entry)) (now (buffer .entry))) ⌝ }
+    ensures { λ r. ⌜ r ≡ packed (listRefusal rounding (now (map .entry)) (length (now (buffer .entry)))) 0 (listAnswer rounding (now (map .entry)) (length (now (buffer .entry)))) ⌝ }
+    ensures { λ _. ⌜ now (buffer .exit) ≡ bufferAfter rounding (now (map .entry)) (now (buffer .entry)) ⌝ }
 {
     let r = list(Rounding(rounding), map, buffer);
-    (r.refusal as u64) * 1099511627776 + r.length as u64
+    pack(r.refusal, 0, r.length as u32)
+}
+
+// The three numbers of a reply as one.
+fn pack(refusal: u8, status: u8, answer: u32) -> u64
+    ensures { λ r. ⌜ r ≡ packed refusal status answer ⌝ }
+{
+    (refusal as u64) * 1099511627776 + (status as u64) * 4294967296 + answer as u64
 }

@@ -1,5 +1,6 @@
 // The questions at the door. Each is worked out whether or not an earlier one is answered "no"; the first "no" gives its number.
 ghost use mathlib.Core.Path.{_≡_};
+ghost use Rattle.kinds.specs.Operation.{isOperation};
 ghost use Rattle.kinds.specs.Question.{ask as Question·ask};
 ghost use Rattle.significand.specs.Call.{rawRefusal};
 ghost use Rattle.ieee.specs.Call.{binary32Refusal};
@@ -12,11 +13,18 @@ pub fn ask(yes: bool, number: u8, rest: u8) -> u8
     if yes { rest } else { number }
 }
 
+// Question 1.
+fn is_operation(operation: u8) -> bool
+    ensures { λ r. ⌜ r ≡ isOperation operation ⌝ }
+{
+    (1 <= operation) & (operation <= 3)
+}
+
 // Questions 1, 3 and 4.
 pub fn raw_refusal(operation: u8, significand: u32, parity: u8) -> u8
     ensures { λ r. ⌜ r ≡ rawRefusal operation significand parity ⌝ }
 {
-    let known = (1 <= operation) & (operation <= 3);
+    let known = is_operation(operation);
     let sized = (8388608 <= significand) & (significand < 16777216);
     let even = parity == 0;
     let odd = (parity == 1) & !(operation == Operation::RECIPROCAL.0);
@@ -29,7 +37,7 @@ pub fn raw_refusal(operation: u8, significand: u32, parity: u8) -> u8
 pub fn binary32_refusal(operation: u8, rounding: u8) -> u8
     ensures { λ r. ⌜ r ≡ binary32Refusal operation rounding ⌝ }
 {
-    let known = (1 <= operation) & (operation <= 3);
+    let known = is_operation(operation);
     let second = ask(rounding <= 3, 2, 0);
     ask(known, 1, second)
 }

@@ -12,6 +12,7 @@ ghost use Rattle.plate.specs.List.{ListCall};
 pub use kinds::Flag;
 pub use kinds::Operation;
 pub use kinds::Rounding;
+pub use listing::ListReply;
 
 // The flags that were raised since the status was last cleared, one bit each.
 pub struct Status {
@@ -39,7 +40,7 @@ impl Status {
     pub fn clear(self) -> Status
         ensures { λ r. ⌜ r ≡ cleared ⌝ }
     {
-        Status { flags: 0 }
+        Status::new()
     }
 }
 
@@ -96,20 +97,10 @@ pub fn binary32(
     }
 }
 
-// What the list call gives back: refusal 0 with the length of the list; or the number of a question, with length 0.
-pub struct ListReply {
-    pub refusal: u8,
-    pub length: usize,
-}
-
-// The list call: the cutter's centres over a map, put at the front of the lent buffer; the bytes behind the list are kept. After a
-// refusal the buffer holds what it held.
+// The list call: the cutter's centres over a map, put at the front of the lent buffer; the bytes behind the list are kept. It gives back
+// refusal 0 with the length of the list; or the number of a question, with length 0, and the buffer holds what it held.
 pub fn list(rounding: Rounding, map: &[u8], buffer: &mut [u8]) -> ListReply
     ensures { λ r. ⌜ ListCall (rounding .0) (now (map .entry)) (now (buffer .entry)) r (now (buffer .exit)) ⌝ }
 {
-    let listed = listing::list(rounding, map, buffer);
-    ListReply {
-        refusal: listed.refusal,
-        length: listed.length,
-    }
+    listing::list(rounding, map, buffer)
 }

@@ -8,7 +8,7 @@ use Rattle.cutter.specs.Call.{listRefusal}
 use Rattle.cutter.specs.Asked.{trailerOf, Sizes}
 use Rattle.cutter.specs.declared.trailer.Trailer.{Trailer}
 use Rattle.cutter.proofs.Accepted.{sixteen-of, sizes-of, records-room}
-use Rattle.plate.specs.declared.ListReply.{ListReply}
+use Rattle.listing.specs.declared.ListReply.{ListReply}
 use Rattle.plate.specs.List.{ListCall}
 
 module _ (rounding : ℕ) (m before after : List ℕ) (r : ListReply) (c : ListCall rounding m before r after) (z : r .refusal ≡ 0) where

@@ -10,12 +10,14 @@ use plate::Rounding;
 use words::word_at;
 
 fn main() {
+    // One byte more than the longest map, 4 × 64 × 64 + 16.
     let mut map = [0u8; 16401];
     let length = io::read_full(STDIN_FILENO, &mut map);
     if 16400 < length {
         refused(9);
         return;
     }
+    // The longest list, 12 × 62 × 62 + 16.
     let mut out = [0u8; 46144];
     show_map(&map[..length], &mut out);
 }

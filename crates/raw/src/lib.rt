@@ -2,7 +2,7 @@
 // The functions follow the numbered steps; an answer g stands for g / 2^28.
 ghost use mathlib.Core.Path.{_≡_};
 ghost use Prim.Native.Nat.{_+_, _*_, _/_, _≤_, _<_, _^_};
-ghost use Rattle.kinds.specs.Operation.{Op, reciprocal as Op·reciprocal, root as Op·root, inverseRoot as Op·inverseRoot};
+ghost use Rattle.kinds.specs.Operation.{reciprocal as Op·reciprocal, root as Op·root, inverseRoot as Op·inverseRoot};
 ghost use Rattle.significand.specs.Steps.{plus as Steps·plus, less as Steps·less, factorOf, reducedOf, seriesOf, rawOf};
 ghost use Rattle.raw.specs.Parts.{Reduced, Products};
 

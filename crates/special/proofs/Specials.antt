@@ -7,7 +7,7 @@ use native.Mathlib.Decide.{decLt, ℕ-discrete}
 use native.Mathlib.Omega.{arith}
 use borrow.Author.Tests.{lt-ltb, le-ltb, le-leb, lt-leb, eq-eqb, ne-eqb}
 use lib.Dec.{eqb, ltb, leb}
-use Rattle.kinds.specs.Operation.{Op, reciprocal, root, inverseRoot, opOf, isReciprocal}
+use Rattle.kinds.specs.Operation.{Op, inverseRoot, opOf, isReciprocal}
 use Rattle.kinds.specs.Flag.{invalid}
 use Rattle.kinds.proofs.Questions.{reciprocal-named}
 use Rattle.ieee.specs.Format.{binary32, infinity, quietNaN}
@@ -73,7 +73,7 @@ module _ (x : Parts) (h : Ranges x) where
       → eqb (x .exponent) 255 || z || (eqb (x .sign) 1 && not (eqb n 1)) ≡ isSpecial (opOf n) x
   special-is n z e = special-by (opOf n) (eqb n 1) z (sym (reciprocal-named n)) e
 
-  pub nan-answer : (r : Rounded) → r ≡ record { bits = 2143289344; flags = cond (ltb (x .fraction) 4194304) 1 0 }
+  pub nan-answer : (r : Rounded) → r ≡ record { bits = quietNaN binary32; flags = cond (ltb (x .fraction) 4194304) invalid 0 }
       → r ≡ roundedAnswer (toNaN binary32 (patternOf (x .exponent) (x .fraction)))
   nan-answer r e =
       let m : patternOf (x .exponent) (x .fraction) % 2 ^ 23 ≡ x .fraction = omega (arith, h) in
@@ -106,7 +106,7 @@ module _ (x : Parts) (h : Ranges x) where
       → z ≡ eqb (patternOf (x .exponent) (x .fraction)) 0
       → nan ≡ ltb (infinity binary32) (patternOf (x .exponent) (x .fraction))
       → nans ≡ roundedAnswer (toNaN binary32 (patternOf (x .exponent) (x .fraction)))
-      → refusal ≡ record { bits = 2143289344; flags = cond true 1 0 }
+      → refusal ≡ record { bits = quietNaN binary32; flags = cond true invalid 0 }
       → edge ≡ cond (eqb (patternOf (x .exponent) (x .fraction)) 0) (roundedAnswer (toZero binary32 (opOf n) (x .sign))) (roundedAnswer (toInfinity binary32 (opOf n) (x .sign)))
       → inner ≡ cond (eqb (x .sign) 1 && not z && not (eqb n 1)) refusal edge
       → r ≡ cond nan nans inner

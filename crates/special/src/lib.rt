@@ -4,7 +4,8 @@ ghost use mathlib.Core.Bool.{cond};
 ghost use Prim.Native.Nat.{_≤_, _<_, max};
 ghost use lib.Dec.{eqb, ltb};
 ghost use Rattle.kinds.specs.Operation.{opOf};
-ghost use Rattle.ieee.specs.Format.{binary32, infinity};
+ghost use Rattle.kinds.specs.Flag.{invalid};
+ghost use Rattle.ieee.specs.Format.{binary32, infinity, quietNaN};
 ghost use Rattle.ieee.specs.Answer.{toNaN, toZero, toInfinity};
 ghost use Rattle.pattern.specs.Parts.{patternOf, Ranges};
 ghost use Rattle.pattern.specs.Neighbour.{roundedAnswer};
@@ -30,11 +31,11 @@ pub fn special(operation: Operation, x: Parts) -> Rounded
     ensures { λ r. ⌜ r ≡ roundedAnswer (specialTo (opOf (operation .0)) x) ⌝ }
 {
     let reciprocal = operation.0 == Operation::RECIPROCAL.0;
-    let refused = (x.sign == 1) & !is_zero(x) & !reciprocal;
+    let invalid = (x.sign == 1) & !is_zero(x) & !reciprocal;
     choose(
         is_nan(x),
         at_nan(x),
-        choose(refused, not_a_number(true), at_edge(operation, x)),
+        choose(invalid, not_a_number(true), at_edge(operation, x)),
     )
 }
 
@@ -70,13 +71,13 @@ fn is_zero(x: Parts) -> bool
     (x.exponent == 0) & (x.fraction == 0)
 }
 
-// The quiet NaN.
-fn not_a_number(invalid: bool) -> Rounded
-    ensures { λ r. ⌜ r ≡ record { bits = 2143289344; flags = cond invalid 1 0 } ⌝ }
+// The quiet NaN, which raises invalid or no flag.
+fn not_a_number(raises: bool) -> Rounded
+    ensures { λ r. ⌜ r ≡ record { bits = quietNaN binary32; flags = cond raises invalid 0 } ⌝ }
 {
     Rounded {
         bits: 0x7FC0_0000,
-        flags: flag_if(invalid, Flag::INVALID),
+        flags: flag_if(raises, Flag::INVALID),
     }
 }
 

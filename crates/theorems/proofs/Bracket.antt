@@ -1,11 +1,10 @@
 -- DEMAND 3, of the calls themselves. Down is rounding 2 and up is rounding 1. Nothing is assumed of the two statuses or of the two lent
 -- buffers. Assumes nothing.
-use mathlib.Core.Path.{_≡_, ap, subst₂, sym, _∙_}
+use mathlib.Core.Path.{_≡_, ap, sym, _∙_}
 use mathlib.Core.List.{List}
-use mathlib.Core.Bool.{_&&_}
 use Prim.Native.Nat.{ℕ, _<_}
 use lib.Dec.{T}
-use lib.ListN.{length, take}
+use lib.ListN.{length}
 use Rattle.kinds.specs.Operation.{isOperation}
 use Rattle.kinds.specs.Rounding.{isRounding}
 use Rattle.kinds.specs.Question.{ask}
@@ -13,15 +12,14 @@ use Rattle.kinds.proofs.Questions.{yes}
 use Rattle.ieee.specs.Format.{binary32, infinity}
 use Rattle.ieee.specs.Call.{binary32Refusal}
 use Rattle.ieee.proofs.Bracket.{call-bracket}
-use Rattle.cutter.specs.List.{listLength}
-use Rattle.cutter.specs.Call.{listRefusal, listAnswer, bufferAfter}
+use Rattle.cutter.specs.Call.{listRefusal}
 use Rattle.bracket.proofs.Entries.{list-held}
 use Rattle.bracket.proofs.Bracket.{list-bracket}
 use Rattle.plate.specs.declared.Status.{Status}
 use Rattle.plate.specs.declared.Binary32Reply.{Binary32Reply}
-use Rattle.plate.specs.declared.ListReply.{ListReply}
+use Rattle.listing.specs.declared.ListReply.{ListReply}
 use Rattle.plate.specs.Binary32.{binary32Call}
-use Rattle.plate.specs.List.{listReply, ListCall}
+use Rattle.plate.specs.List.{ListCall}
 use Rattle.theorems.specs.Bracket.{Binary32Bracket, ListsBracket}
 
 -- two accepted calls with the same operation and the same positive finite operand, whatever status each is given
@@ -38,7 +36,7 @@ binary32-bracket operation operand a b lower upper e f r s p l =
     let known : T (isOperation operation) =
     yes (isOperation operation) 0 (ask (isRounding 2) 2 0) (sym (ap (λ (x : Binary32Reply). x .refusal) e) ∙ r) .0 in
     let k = call-bracket operation known operand p l in
-    rw (e, f) (record { equal = k .equal; next = k .next-unless })
+    rw (e, f) (record { equal = k .equal; next = k .next })
 
 -- two accepted calls with the same map, whatever the two lent buffers held
 pub list-calls-bracket : (m a b lowest uppermost : List ℕ) (lower upper : ListReply)

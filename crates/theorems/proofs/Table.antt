@@ -1,14 +1,14 @@
 -- The rows of document 01's table that are marked P, together. Assumes nothing.
-use mathlib.Core.Path.{_≡_, refl, ap}
-use Prim.Native.Nat.{ℕ, _≤_}
+use mathlib.Core.Path.{_≡_, refl}
+use Prim.Native.Nat.{ℕ}
 use lib.Dec.{T, le→leb}
-use Rattle.kinds.specs.Operation.{isOperation, opOf, reciprocal, inverseRoot}
+use Rattle.kinds.specs.Operation.{isOperation, opOf}
 use Rattle.kinds.specs.Rounding.{isRounding, modeOf}
 use Rattle.kinds.specs.Question.{ask}
 use Rattle.significand.specs.Call.{rawRefusal, rawAnswer}
 use Rattle.significand.proofs.Rows.{raw-rows}
 use Rattle.ieee.specs.Format.{binary32}
-use Rattle.ieee.specs.Answer.{Answer, answer, answerOf}
+use Rattle.ieee.specs.Answer.{answer, answerOf}
 use Rattle.ieee.proofs.Accepted.{accepted, accepted-bits, accepted-status}
 use Rattle.ieee.proofs.Rows.{pattern-rows}
 use Rattle.cutter.proofs.Rows.{offset-row}

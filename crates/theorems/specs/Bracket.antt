@@ -4,7 +4,7 @@ use mathlib.Core.Logic.{_↔_}
 use mathlib.Core.List.{List}
 use Prim.Native.Nat.{ℕ, suc, _<_}
 use lib.ListN.{take}
-use lib.IntN.{ℤ, pos, _+ℤ_}
+use lib.IntN.{pos, _+ℤ_}
 use Rattle.kinds.specs.Operation.{opOf}
 use Rattle.ieee.specs.Format.{binary32, magnitudeOf}
 use Rattle.ieee.specs.Agree.{Agree}
@@ -12,7 +12,7 @@ use Rattle.cutter.specs.Map.{widthOf, depthOf}
 use Rattle.cutter.specs.List.{countOf}
 use Rattle.cutter.specs.Agree.{ExactMap, entryAt}
 use Rattle.plate.specs.declared.Binary32Reply.{Binary32Reply}
-use Rattle.plate.specs.declared.ListReply.{ListReply}
+use Rattle.listing.specs.declared.ListReply.{ListReply}
 
 -- two answers to one operand: equal exactly where its value agrees, and otherwise the upper pattern is the next above the lower
 pub record Binary32Bracket (operation operand : ℕ) (lower upper : Binary32Reply) : Type 0 where

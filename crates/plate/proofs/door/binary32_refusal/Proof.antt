@@ -4,6 +4,9 @@ use borrow.Author.Needs.{needs}
 use Rattle.plate.proofs.door.binary32_refusal.Statement.{statement}
 use Rattle.plate.proofs.door.binary32_refusal.Tie as tie
 
+is-operation-requires : tie.Need-is-operation-requires
+is-operation-requires c κs = search needs
+
 ask-requires : tie.Need-ask-requires
 ask-requires c κs = search needs
 
@@ -14,4 +17,5 @@ returns : tie.Need-returns
 returns c = search binary32-refusal-is
 
 pub binary32-refusal-spec : {M : Type 1} → statement M
-binary32-refusal-spec = tie.close (tie.spec ask-requires ask-requires-2 returns)
+binary32-refusal-spec =
+    tie.close (tie.spec is-operation-requires ask-requires ask-requires-2 returns)

@@ -4,6 +4,9 @@ use borrow.Author.Needs.{needs}
 use Rattle.plate.proofs.door.raw_refusal.Statement.{statement}
 use Rattle.plate.proofs.door.raw_refusal.Tie as tie
 
+is-operation-requires : tie.Need-is-operation-requires
+is-operation-requires c κs = search needs
+
 ask-requires : tie.Need-ask-requires
 ask-requires c κs = search needs
 
@@ -17,4 +20,5 @@ returns : tie.Need-returns
 returns c = search refusal-is
 
 pub raw-refusal-spec : {M : Type 1} → statement M
-raw-refusal-spec = tie.close (tie.spec ask-requires ask-requires-2 ask-requires-3 returns)
+raw-refusal-spec =
+    tie.close (tie.spec is-operation-requires ask-requires ask-requires-2 ask-requires-3 returns)
