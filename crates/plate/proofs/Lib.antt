@@ -1,4 +1,3 @@
-pub mod Questions
 pub mod Replies
 pub mod Rounded
 pub mod Listed

@@ -2,7 +2,6 @@
 // anything of its caller: an operand that a call cannot take gets the number of the first question that it fails.
 mod answers;
 mod c;
-mod door;
 
 ghost use mathlib.Core.Path.{_≡_};
 ghost use Rattle.plate.specs.Status.{raised, cleared};

@@ -1,8 +1,8 @@
--- `plate::door::binary32_refusal` meets its contract. Assumes nothing.
-use Rattle.plate.proofs.Questions.{binary32-refusal-is}
+-- `door::binary32_refusal` meets its contract. Assumes nothing.
+use Rattle.door.proofs.Questions.{binary32-refusal-is}
 use borrow.Author.Needs.{needs}
-use Rattle.plate.proofs.door.binary32_refusal.Statement.{statement}
-use Rattle.plate.proofs.door.binary32_refusal.Tie as tie
+use Rattle.door.proofs.binary32_refusal.Statement.{statement}
+use Rattle.door.proofs.binary32_refusal.Tie as tie
 
 is-operation-requires : tie.Need-is-operation-requires
 is-operation-requires c κs = search needs

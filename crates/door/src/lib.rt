@@ -1,4 +1,4 @@
-// The questions at the door. Each is worked out whether or not an earlier one is answered "no"; the first "no" gives its number.
+// The questions at the door of the raw and the binary32 call. Each is worked out whether or not an earlier one is answered "no"; the first "no" gives its number.
 ghost use mathlib.Core.Path.{_≡_};
 ghost use Rattle.kinds.specs.Operation.{isOperation};
 ghost use Rattle.kinds.specs.Question.{ask as Question·ask};

@@ -1,7 +1,7 @@
--- `plate::door::ask` meets its contract, by the answer. Assumes nothing.
+-- `door::ask` meets its contract, by the answer. Assumes nothing.
 use Rattle.kinds.specs.Question.{ask}
-use Rattle.plate.proofs.door.ask.Statement.{statement}
-use Rattle.plate.proofs.door.ask.Tie as tie
+use Rattle.door.proofs.ask.Statement.{statement}
+use Rattle.door.proofs.ask.Tie as tie
 
 returns : tie.Need-returns
 unfolding ask

@@ -1,8 +1,8 @@
--- `plate::door::raw_refusal` meets its contract. Assumes nothing.
-use Rattle.plate.proofs.Questions.{refusal-is}
+-- `door::raw_refusal` meets its contract. Assumes nothing.
+use Rattle.door.proofs.Questions.{refusal-is}
 use borrow.Author.Needs.{needs}
-use Rattle.plate.proofs.door.raw_refusal.Statement.{statement}
-use Rattle.plate.proofs.door.raw_refusal.Tie as tie
+use Rattle.door.proofs.raw_refusal.Statement.{statement}
+use Rattle.door.proofs.raw_refusal.Tie as tie
 
 is-operation-requires : tie.Need-is-operation-requires
 is-operation-requires c κs = search needs
