@@ -80,7 +80,7 @@ def main():
             for span in spans:
                 if found(span) is False:
                     wrong.append(f'{document}:{number}: `{span}` is not in the tree')
-            row = document == 'docs/PROMISES.md' and line.startswith('| ') and not line.startswith(('| Sentence', '| Fraud', '|---'))
+            row = document == 'docs/PROMISES.md' and line.startswith('| ') and not line.startswith(('| Sentence', '| Fraud', '| Call', '|---'))
             if row and not any(found(s) for s in spans):
                 wrong.append(f'{document}:{number}: a row that cites nothing')
     for edit in sorted(CRATES.glob('*/must-fail/*.edit')):

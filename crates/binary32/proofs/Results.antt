@@ -1,5 +1,5 @@
 -- From the raw unit to the pattern below the exact result. Assumes nothing.
-use mathlib.Core.Path.{_≡_, sym, subst}
+use mathlib.Core.Path.{_≡_}
 use Prim.Native.Nat.{ℕ, _+_, _*_, _-_, _/_, _%_, _^_, _≤_, _<_}
 use native.Mathlib.Nat.{mul-pos}
 use native.Mathlib.Omega.{arith}
@@ -11,8 +11,8 @@ use lib.Dec.{eqb}
 use lib.Pow.{pow-pos}
 use Rattle.kinds.specs.Operation.{Op, reciprocal, root, inverseRoot, opOf}
 use Rattle.significand.specs.Steps.{rawOf}
-use Rattle.significand.specs.Distance.{Near, distanceOf}
-use Rattle.significand.proofs.Distance.{distance}
+use Rattle.significand.specs.Distance.{Near}
+use Rattle.significand.proofs.Accepted.{raw-near}
 use Rattle.ieee.specs.Format.{binary32, magnitudeOf}
 use Rattle.ieee.specs.Guarded.{Guarded, Below}
 use Rattle.ieee.proofs.Guarded.{guarded-below}
@@ -27,12 +27,7 @@ use Rattle.pattern.specs.declared.neighbour.Neighbour.{Neighbour}
 use Rattle.floors.proofs.Reaching.{quotient-small}
 use Rattle.binary32.proofs.Scales.{reciprocal-guarded, root-guarded, inverse-guarded}
 
--- the raw answer is near
-raw-near : (op : Op) (y p g : ℕ) → 8388608 ≤ y → y < 16777216 → p ≤ 1 → g ≡ rawOf 7 3 op y p → Near op 7 3 y p (distanceOf op) g
-raw-near op y p g low high parity e =
-    subst (λ (n : ℕ). Near op 7 3 y p (distanceOf op) n) (sym e)
-    (distance op 7 3 y p (omega arith) parity (record { least = low; below = high }))
-
+-- the raw answers are near
 pub reciprocal-near : (y g : ℕ) → 8388608 ≤ y → y < 16777216 → g ≡ rawOf 7 3 reciprocal y 0 → Near reciprocal 7 3 y 0 12 g
 reciprocal-near y g low high e = raw-near reciprocal y 0 g low high (omega arith) e
 

@@ -13,8 +13,8 @@ use mir.Val.{Fits}
 use Rattle.numbers.proofs.Ring.{E, v, #, _⊕_, _⊗_, _⊙_⊑_, nlin×}
 use Rattle.kinds.specs.Operation.{inverseRoot}
 use Rattle.significand.specs.Steps.{rawOf}
-use Rattle.significand.specs.Distance.{Significand, Near}
-use Rattle.significand.proofs.Distance.{distance}
+use Rattle.significand.specs.Distance.{Near}
+use Rattle.significand.proofs.Accepted.{raw-near}
 use Rattle.offset.specs.Inverse.{InverseOf}
 
 -- the place of the highest bit, counted from 0
@@ -190,9 +190,8 @@ module _ (q : ℕ) (pos : 0 < q) (small : q < 2 ^ 35) (g : ℕ) (near : Near inv
 module _ (q : ℕ) (pos : 0 < q) (small : q < 2 ^ 35) (g : ℕ) (raw : g ≡ rawOf 7 3 inverseRoot (significandOf q) (exponentOf q % 2)) where
   near : Near inverseRoot 7 3 (significandOf q) (exponentOf q % 2) 8 g
   near =
-      let Y : Significand 7 3 (significandOf q) = record { least = significand-least q pos small; below = significand-most q pos small } in
-      subst (λ (x : ℕ). Near inverseRoot 7 3 (significandOf q) (exponentOf q % 2) 8 x) (sym raw)
-      (distance inverseRoot 7 3 (significandOf q) (exponentOf q % 2) (omega arith) (parity-most (exponentOf q)) Y)
+      raw-near inverseRoot (significandOf q) (exponentOf q % 2) g (significand-least q pos small) (significand-most q pos small)
+      (parity-most (exponentOf q)) raw
 
   pub answer-above : 24 ≤ g
   answer-above = inverse-near q pos small g near .0

@@ -2,13 +2,14 @@
 use mathlib.Core.Path.{_≡_, subst}
 use mathlib.Core.Bool.{not, _&&_, _||_}
 use mathlib.Core.Logic.{⊎-elim}
-use Prim.Native.Nat.{ℕ, _^_, _≤_}
+use Prim.Native.Nat.{ℕ, _^_, _≤_, _<_}
 use native.Mathlib.Omega.{arith}
 use mir.Facts.{and-yes, or-yes, leb-yes, ltb-yes, eqb-yes}
 use lib.Dec.{T, eqb, leb, ltb}
-use Rattle.kinds.specs.Operation.{isOperation, opOf}
+use Rattle.kinds.specs.Operation.{Op, isOperation, opOf}
 use Rattle.kinds.specs.Question.{ask}
 use Rattle.kinds.proofs.Questions.{yes, reciprocal-named}
+use Rattle.significand.specs.Steps.{rawOf}
 use Rattle.significand.specs.Call.{isSignificand, isParity, rawRefusal, rawAnswer}
 use Rattle.significand.specs.Distance.{Significand, Near, distanceOf}
 use Rattle.significand.proofs.Distance.{distance}
@@ -22,6 +23,10 @@ parity-told operation p h =
     let e : p ≡ 1 = eqb-yes (b .0) in
     (omega arith, λ f. absurd (subst (λ (n : ℕ). T (not (eqb n 1))) f (b .1))))
     (or-yes (eqb p 0) (eqb p 1 && not (eqb operation 1)) h)
+
+-- a raw answer at k = 7 is near
+pub raw-near : (op : Op) (y p g : ℕ) → 2 ^ 23 ≤ y → y < 2 ^ 24 → p ≤ 1 → g ≡ rawOf 7 3 op y p → Near op 7 3 y p (distanceOf op) g
+raw-near op y p g low high parity e = rw e (distance op 7 3 y p (omega arith) parity (record { least = low; below = high }))
 
 -- what an accepted call may rely on
 pub record Accepted (operation y p : ℕ) : Type 0 where
