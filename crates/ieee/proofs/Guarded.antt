@@ -10,7 +10,8 @@ use borrow.Author.Tests.{le-leb, lt-leb, lt-ltb, le-ltb, eq-eqb, ne-eqb, eqb-tru
 use lib.Dec.{eqb}
 use lib.Pow.{pow-pos, shr-le}
 use Rattle.kinds.specs.Operation.{Op, reciprocal, root, inverseRoot}
-use Rattle.kinds.specs.Rounding.{exact, below, half, above, placeBy, placeOf}
+use Rattle.kinds.specs.Rounding.{exact, below, half, above, placeBy}
+use Rattle.kinds.specs.Guard.{placeOf}
 use Rattle.numbers.proofs.Powers.{power-of-four}
 use Rattle.ieee.specs.Format.{Format, unitOf, infinity, magnitudeOf}
 use Rattle.ieee.specs.Rounded.{side, limit, twice, fits, lowerOf, placeAt}

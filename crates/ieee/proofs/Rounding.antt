@@ -9,7 +9,8 @@ use native.Mathlib.Omega.{arith}
 use borrow.Author.Tests.{le-leb, lt-leb, lt-ltb, le-ltb}
 use lib.Dec.{ltb, eqb}
 use Rattle.kinds.specs.Operation.{Op}
-use Rattle.kinds.specs.Rounding.{Mode, Place, exact, below, half, above, away, placeBy, placeOf, roundedBy}
+use Rattle.kinds.specs.Rounding.{Mode, Place, exact, below, half, above, away, placeBy, roundedBy}
+use Rattle.kinds.specs.Guard.{placeOf}
 use Rattle.kinds.specs.Flag.{overflow, underflow, inexact}
 use Rattle.ieee.specs.Format.{Format, unitOf, infinity, leastNormal, magnitudeOf}
 use Rattle.ieee.specs.Rounded.{side, limit, twice, fits, placeAt, roundedOf, isInexact, isOverflow, isUnderflow, flagsOf}

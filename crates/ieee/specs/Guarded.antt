@@ -4,7 +4,7 @@ use mathlib.Core.Bool.{Bool, false, not, _||_}
 use Prim.Native.Nat.{ℕ, suc, _+_, _*_, _-_, _/_, _%_, _^_, _≤_, _<_}
 use lib.Dec.{leb, eqb}
 use Rattle.kinds.specs.Operation.{Op}
-use Rattle.kinds.specs.Rounding.{placeOf}
+use Rattle.kinds.specs.Guard.{placeOf}
 use Rattle.ieee.specs.Format.{Format, unitOf, infinity, magnitudeOf}
 use Rattle.ieee.specs.Rounded.{side, limit, twice, fits, lowerOf, placeAt}
 

@@ -4,7 +4,8 @@ use mathlib.Core.Bool.{Bool, true, false, cond, not, _&&_, _||_}
 use Prim.Native.Nat.{ℕ, suc, _%_, _≤_}
 use native.Mathlib.Omega.{arith}
 use lib.Dec.{eqb}
-use Rattle.kinds.specs.Rounding.{Mode, nearest, up, down, towardZero, Place, away, placeOf, roundedBy}
+use Rattle.kinds.specs.Rounding.{Mode, nearest, up, down, towardZero, Place, away, roundedBy}
+use Rattle.kinds.specs.Guard.{placeOf}
 
 -- the result is at most the next neighbour
 pub next-most : (mode : Mode) (negative : Bool) (t : ℕ) (place : Place) → roundedBy mode negative t place ≤ suc t

@@ -46,10 +46,3 @@ placeBy low limit middle doubled =
 -- the lower neighbour t, or the next, as the rounding decides
 unfoldable pub roundedBy : Mode → Bool → ℕ → Place → ℕ
 roundedBy mode negative t place = cond (away mode negative (eqb (t % 2) 1) place) (suc t) t
-
--- the place by two bits: whether the midpoint is reached, and whether anything lies above what was reached
-abbrev pub placeOf : Bool → Bool → Place
-placeOf false false = exact
-placeOf false true = below
-placeOf true false = half
-placeOf true true = above

@@ -1,6 +1,7 @@
 // The operations, the roundings and the flags, each under a name that belongs to its kind, and the choice between two neighbours.
 ghost use mathlib.Core.Path.{_≡_};
-ghost use Rattle.kinds.specs.Rounding.{modeOf, placeOf, away};
+ghost use Rattle.kinds.specs.Rounding.{modeOf, away};
+ghost use Rattle.kinds.specs.Guard.{placeOf};
 ghost use Rattle.kinds.specs.Flag.{invalid, divisionByZero, overflow, underflow, inexact};
 
 pub struct Operation(pub u8);

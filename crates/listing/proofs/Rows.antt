@@ -16,7 +16,7 @@ use Rattle.cutter.specs.List.{centreAt, recordAt}
 use Rattle.cutter.specs.Asked.{trailerOf, Sizes, Ready}
 use Rattle.cutter.specs.Map.{Inner}
 use Rattle.cutter.proofs.Lengths.{length-record}
-use Rattle.listing.specs.Reply.{rowRecord, rowBytes}
+use Rattle.listing.specs.Rows.{rowRecord, rowBytes}
 use Rattle.cutter.specs.declared.trailer.Trailer.{Trailer}
 
 -- ---- the inner points of a row

@@ -10,7 +10,8 @@ use borrow.Author.Tests.{lt-ltb, le-ltb, eq-eqb, ne-eqb}
 use lib.Dec.{eqb}
 use mir.Syntax.{w64}
 use mir.Val.{Fits}
-use Rattle.kinds.specs.Rounding.{Mode, nearest, up, down, towardZero, modeOf, away, placeOf, roundedBy}
+use Rattle.kinds.specs.Rounding.{Mode, nearest, up, down, towardZero, modeOf, away, roundedBy}
+use Rattle.kinds.specs.Guard.{placeOf}
 use Rattle.cutter.specs.Offset.{roundedOver}
 use Rattle.offset.specs.Inverse.{InverseOf, DoubledOver, Ranges, Sizes}
 use Rattle.offset.specs.Settled.{restOf, stepped, settledBy}

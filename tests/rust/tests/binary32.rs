@@ -11,7 +11,7 @@ use plate_tests::chance::Chance;
 use plate_tests::reference::{binary32, ALL_FLAGS, DOWN, INVERSE_ROOT, RECIPROCAL, ROOT, UP};
 use plate_tests::{machine, pack, vectors, work};
 
-const SAMPLE: u64 = 12_000_000;
+const SAMPLE: u64 = 10_500_000;
 const LAST_FINITE: u32 = 0x7F7F_FFFF;
 
 /// Twelve calls, three operations in four roundings. The status differs from
@@ -183,7 +183,7 @@ fn down_and_up() {
             }
         }
         assert_eq!(listed, count, "operation {operation}");
-        work::over("down and up", SAMPLE, |part| {
+        work::over("down and up", SAMPLE / 4, |part| {
             for k in part {
                 check(1 + ((k * 0x9E37_79B1 & 0xFFFF_FFFF) * LAST_FINITE as u64 >> 32) as u32);
             }

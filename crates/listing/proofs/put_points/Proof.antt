@@ -2,7 +2,7 @@
 use Prim.Native.Nat.{_-_}
 use borrow.Author.Needs.{needs}
 use Rattle.listing.proofs.Rows.{rows-more, rows-put}
-use Rattle.listing.specs.Reply.{rowBytes}
+use Rattle.listing.specs.Rows.{rowBytes}
 use Rattle.kinds.specs.Rounding.{modeOf}
 use Rattle.words.proofs.Runs.{Written, written-none}
 use Rattle.listing.proofs.put_points.Statement.{statement}

@@ -2,7 +2,7 @@
 use Prim.Native.Nat.{_-_, _*_}
 use borrow.Author.Needs.{needs}
 use Rattle.listing.proofs.Rows.{inner-of, row-fits, place-fits, points-more, point-room, row-put}
-use Rattle.listing.specs.Reply.{rowRecord}
+use Rattle.listing.specs.Rows.{rowRecord}
 use Rattle.kinds.specs.Rounding.{modeOf}
 use Rattle.words.proofs.Runs.{Written, written-none}
 use Rattle.listing.proofs.put_row.Statement.{statement}
