@@ -1,6 +1,6 @@
 -- `raw::inverse_root` meets its contract. Assumes nothing.
-use Rattle.raw.proofs.Parts.{raw-is}
-use Rattle.raw.proofs.Bounds.{multiplier-small}
+use Rattle.series.proofs.Parts.{raw-is}
+use Rattle.series.proofs.Bounds.{multiplier-small}
 use borrow.Author.Needs.{needs}
 use Rattle.raw.proofs.inverse_root.Statement.{statement}
 use Rattle.raw.proofs.inverse_root.Tie as tie

@@ -1,7 +1,7 @@
 -- `raw::reciprocal` meets its contract. Assumes nothing.
 use native.Mathlib.Omega.{arith}
-use Rattle.raw.proofs.Parts.{reciprocal-raw-is}
-use Rattle.raw.proofs.Bounds.{factor-small}
+use Rattle.series.proofs.Parts.{reciprocal-raw-is}
+use Rattle.series.proofs.Bounds.{factor-small}
 use borrow.Author.Needs.{needs}
 use Rattle.raw.proofs.reciprocal.Statement.{statement}
 use Rattle.raw.proofs.reciprocal.Tie as tie

@@ -1,6 +1,6 @@
 -- `raw::scaled` meets its contract: the product has 59 bits. Assumes nothing.
 use native.Mathlib.Omega.{arith}
-use Rattle.raw.proofs.Bounds.{scaled-product}
+use Rattle.series.proofs.Bounds.{scaled-product}
 use borrow.Author.Needs.{needs}
 use Rattle.raw.proofs.scaled.Statement.{statement}
 use Rattle.raw.proofs.scaled.Tie as tie

@@ -1,9 +1,9 @@
--- `raw::reciprocal_series` meets its contract. Assumes nothing.
+-- `series::reciprocal_series` meets its contract. Assumes nothing.
 use native.Mathlib.Omega.{arith}
-use Rattle.raw.proofs.Parts.{reciprocal-is}
+use Rattle.series.proofs.Parts.{reciprocal-is}
 use borrow.Author.Needs.{needs}
-use Rattle.raw.proofs.reciprocal_series.Statement.{statement}
-use Rattle.raw.proofs.reciprocal_series.Tie as tie
+use Rattle.series.proofs.reciprocal_series.Statement.{statement}
+use Rattle.series.proofs.reciprocal_series.Tie as tie
 
 products-requires : tie.Need-products-requires
 products-requires c κs = search needs

@@ -1,8 +1,8 @@
--- `raw::less` meets its contract, by the sign. Assumes nothing.
+-- `series::less` meets its contract, by the sign. Assumes nothing.
 use native.Mathlib.Omega.{arith}
 use borrow.Author.Needs.{needs}
-use Rattle.raw.proofs.less.Statement.{statement}
-use Rattle.raw.proofs.less.Tie as tie
+use Rattle.series.proofs.less.Statement.{statement}
+use Rattle.series.proofs.less.Tie as tie
 
 sub-result : tie.Need-sub-result
 sub-result c = search needs

@@ -2,8 +2,8 @@
 use mathlib.Core.Path.{_≡_}
 use Prim.Native.Nat.{ℕ, _*_, _<_, _^_}
 use Rattle.significand.specs.Steps.{signOf, reducedOf, digit2, digit3, carryOf}
-use Rattle.raw.specs.declared.Reduction.{Reduction}
-use Rattle.raw.specs.declared.Terms.{Terms}
+use Rattle.series.specs.declared.Reduction.{Reduction}
+use Rattle.series.specs.declared.Terms.{Terms}
 
 -- step 2 of u, which is y × R: s and a, which has 21 bits
 pub record Reduced (u : ℕ) (d : Reduction) : Type 0 where

@@ -1,10 +1,10 @@
--- `raw::reduce` meets its contract: y × R has 33 bits. Assumes nothing.
-use Rattle.raw.proofs.Bounds.{reduced-product}
-use Rattle.raw.proofs.Parts.{reduced-is}
+-- `series::reduce` meets its contract: y × R has 33 bits. Assumes nothing.
+use Rattle.series.proofs.Bounds.{reduced-product}
+use Rattle.series.proofs.Parts.{reduced-is}
 use native.Mathlib.Omega.{arith}
 use borrow.Author.Needs.{needs}
-use Rattle.raw.proofs.reduce.Statement.{statement}
-use Rattle.raw.proofs.reduce.Tie as tie
+use Rattle.series.proofs.reduce.Statement.{statement}
+use Rattle.series.proofs.reduce.Tie as tie
 
 mul-u : tie.Need-mul-u
 mul-u c = omega (arith, reduced-product (c .args .y) (c .pre .0) (c .pre .1) (c .args .r) (c .pre .2))

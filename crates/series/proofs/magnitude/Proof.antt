@@ -1,9 +1,9 @@
--- `raw::magnitude` meets its contract: of the two differences one is 0. Assumes nothing.
+-- `series::magnitude` meets its contract: of the two differences one is 0. Assumes nothing.
 use native.Mathlib.Omega.{arith}
 use Rattle.significand.specs.Steps.{reducedOf}
 use borrow.Author.Needs.{needs}
-use Rattle.raw.proofs.magnitude.Statement.{statement}
-use Rattle.raw.proofs.magnitude.Tie as tie
+use Rattle.series.proofs.magnitude.Statement.{statement}
+use Rattle.series.proofs.magnitude.Tie as tie
 
 sub-result : tie.Need-sub-result
 sub-result c = search needs

@@ -7,10 +7,10 @@ use native.Mathlib.Omega.{arith}
 use Rattle.kinds.specs.Operation.{Op, reciprocal, root, inverseRoot}
 use Rattle.significand.specs.Steps.{plus, less, digit2, digit3, carryOf, indexOf, factorOf, signOf, reducedOf, sumOf, seriesOf, multiplierOf, rawOf}
 use lib.Dec.{leb}
-use Rattle.raw.proofs.Bounds.{reduced-small}
-use Rattle.raw.specs.declared.Reduction.{Reduction}
-use Rattle.raw.specs.declared.Terms.{Terms}
-use Rattle.raw.specs.Parts.{Products, Reduced}
+use Rattle.series.proofs.Bounds.{reduced-small}
+use Rattle.series.specs.declared.Reduction.{Reduction}
+use Rattle.series.specs.declared.Terms.{Terms}
+use Rattle.series.specs.Parts.{Products, Reduced}
 
 -- step 2, for a significand y and its R
 pub reduced-is : (y r m : ℕ) → 8388608 ≤ y → y < 16777216 → r ≡ factorOf 7 (y / 65536) → m ≡ reducedOf 7 3 (y * r)

@@ -1,8 +1,8 @@
--- `raw::products` meets its contract. Assumes nothing.
+-- `series::products` meets its contract. Assumes nothing.
 use native.Mathlib.Omega.{arith}
 use borrow.Author.Needs.{needs}
-use Rattle.raw.proofs.products.Statement.{statement}
-use Rattle.raw.proofs.products.Tie as tie
+use Rattle.series.proofs.products.Statement.{statement}
+use Rattle.series.proofs.products.Tie as tie
 
 product-requires : tie.Need-product-requires
 product-requires c κs = search needs

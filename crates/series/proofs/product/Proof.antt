@@ -1,9 +1,9 @@
--- `raw::product` meets its contract: two numbers of 7 bits have a product of 14. Assumes nothing.
+-- `series::product` meets its contract: two numbers of 7 bits have a product of 14. Assumes nothing.
 use mathlib.Core.Path.{refl}
 use native.Mathlib.Omega.{arith}
-use Rattle.raw.proofs.Bounds.{digits-product}
-use Rattle.raw.proofs.product.Statement.{statement}
-use Rattle.raw.proofs.product.Tie as tie
+use Rattle.series.proofs.Bounds.{digits-product}
+use Rattle.series.proofs.product.Statement.{statement}
+use Rattle.series.proofs.product.Tie as tie
 
 mul-result : tie.Need-mul-result
 mul-result c = omega (arith, digits-product (c .args .a) (c .args .b) (c .pre .0) (c .pre .1))

@@ -1,8 +1,8 @@
--- `raw::plus` meets its contract, by the sign. Assumes nothing.
+-- `series::plus` meets its contract, by the sign. Assumes nothing.
 use native.Mathlib.Omega.{arith}
 use borrow.Author.Needs.{needs}
-use Rattle.raw.proofs.plus.Statement.{statement}
-use Rattle.raw.proofs.plus.Tie as tie
+use Rattle.series.proofs.plus.Statement.{statement}
+use Rattle.series.proofs.plus.Tie as tie
 
 add-result : tie.Need-add-result
 add-result c = search needs
