@@ -14,7 +14,8 @@ use Rattle.ieee.specs.Answer.{Answer, signed, toFinite, answerTo, answerOf}
 use Rattle.ieee.proofs.Rounding.{rounded-is, flags-are}
 use Rattle.pattern.specs.Parts.{patternOf, PartsOf, Ranges}
 use Rattle.floors.specs.Operand.{Ordinary}
-use Rattle.pattern.specs.Neighbour.{roundedAnswer, takenFrom, roundedFrom}
+use Rattle.pattern.specs.Neighbour.{roundedAnswer}
+use Rattle.rounding.specs.Rounded.{takenFrom, roundedFrom}
 use Rattle.binary32.specs.Below.{BelowResult}
 use Rattle.special.specs.Special.{isSpecialAt, isSpecial, specialAt, specialTo}
 use Rattle.pattern.specs.declared.parts.Parts.{Parts}

@@ -11,8 +11,8 @@ use below::below;
 use kinds::Operation;
 use kinds::Rounding;
 pub use pattern::Rounded;
-use pattern::neighbour::round;
 use pattern::parts::fields;
+use rounding::round;
 use special::is_special;
 use special::special;
 

@@ -1,7 +1,7 @@
 -- A pattern taken apart and put together, and the lower neighbour as the code works it out. Assumes nothing.
 use mathlib.Core.Path.{_≡_, refl, ap, _∙_}
-use mathlib.Core.Bool.{Bool, true, cond, not, _||_}
-use Prim.Native.Nat.{ℕ, suc, _+_, _*_, _-_, _/_, _%_, _^_, _≤_, _<_, min}
+use mathlib.Core.Bool.{Bool, not, _||_}
+use Prim.Native.Nat.{ℕ, _+_, _*_, _-_, _/_, _%_, _^_, _≤_, _<_, min}
 use native.Mathlib.Nat.{mod-eq-of-lt, div-mul-le-self}
 use native.Mathlib.Omega.{arith}
 use lib.Bits.{bitAnd, bitOr, and-mask, or-shifted}
@@ -25,10 +25,6 @@ shl-or j k w {a} {b} ha hb le = ap (λ (x : ℕ). bitOr x b) (shl-exact j k w ha
 
 pub with-sign-is : (s t : ℕ) → s < 2 → t < 2 ^ 31 → bitOr (s * 2 ^ 31 % 2 ^ 32) t ≡ signed binary32 s t
 with-sign-is s t hs ht = shl-or 1 31 32 hs ht (omega arith)
-
--- one more, or not
-pub next-is : (away : Bool) (t : ℕ) → away ≡ true → t + 1 ≡ cond away (suc t) t
-next-is away t e = rw e (omega arith)
 
 pub neighbour-is : (q k lost raised pattern : ℕ) (more : Bool) → q ≤ 2 ^ 25 → k ≤ 276 → lost ≡ 2 - k → raised ≡ k - 2
     → pattern ≡ min (raised * 2 ^ 23 % 2 ^ 64 + q / 2 ^ lost / 2) 2139095039

@@ -1,12 +1,8 @@
--- The pattern below an exact result, and the rounded pattern with its flags. Assumes nothing.
-use mathlib.Core.Bool.{Bool, cond, _&&_, _||_}
-use Prim.Native.Nat.{ℕ, suc, _+_, _-_, _%_, min}
-use lib.Dec.{eqb, ltb}
-use Rattle.kinds.specs.Rounding.{Mode, away}
-use Rattle.kinds.specs.Guard.{placeOf}
-use Rattle.kinds.specs.Flag.{overflow, underflow, inexact}
-use Rattle.ieee.specs.Format.{binary32, infinity, leastNormal}
-use Rattle.ieee.specs.Answer.{Answer, signed}
+-- The pattern below an exact result. Assumes nothing.
+use mathlib.Core.Bool.{Bool, _||_}
+use Prim.Native.Nat.{ℕ, _-_, min}
+use Rattle.ieee.specs.Format.{binary32, infinity}
+use Rattle.ieee.specs.Answer.{Answer}
 use Rattle.ieee.specs.Guarded.{floorPattern, guardBit, stickyBit, isBeyond}
 use Rattle.pattern.specs.declared.neighbour.Neighbour.{Neighbour}
 use Rattle.pattern.specs.declared.Rounded.{Rounded}
@@ -19,22 +15,6 @@ neighbourOf q more k =
       half = guardBit k q || isBeyond binary32 k q;
       more = stickyBit k q more || isBeyond binary32 k q;
       beyond = isBeyond binary32 k q;
-    }
-
--- the pattern that the rounding takes
-abbrev pub takenFrom : Mode → ℕ → Neighbour → ℕ
-takenFrom mode s n =
-    cond (away mode (eqb s 1) (eqb (n .pattern % 2) 1) (placeOf (n .half) (n .more))) (suc (n .pattern)) (n .pattern)
-
--- with its sign, and the flags
-unfoldable pub roundedFrom : Mode → ℕ → Neighbour → Rounded
-roundedFrom mode s n =
-    record {
-      bits = signed binary32 s (takenFrom mode s n);
-      flags =
-          cond (n .beyond || eqb (takenFrom mode s n) (infinity binary32)) overflow 0
-          + cond (ltb (n .pattern) (leastNormal binary32) && (n .half || n .more)) underflow 0
-          + cond (n .half || n .more) inexact 0;
     }
 
 -- an answer as the code returns it

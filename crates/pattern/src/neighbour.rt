@@ -1,15 +1,11 @@
-// From a floor with a guard bit to the pattern below the exact result, and from there to the rounded pattern and its flags.
+// From a floor with a guard bit to the pattern below the exact result; a pattern with its sign, and a flag where it is raised.
 ghost use mathlib.Core.Path.{_≡_};
 ghost use mathlib.Core.Bool.{cond};
-ghost use Prim.Native.Nat.{suc, _-_, _^_, _≤_, _<_, min};
-ghost use Rattle.kinds.specs.Rounding.{modeOf};
-ghost use Rattle.ieee.specs.Format.{binary32, infinity};
+ghost use Prim.Native.Nat.{_-_, _^_, _≤_, _<_, min};
+ghost use Rattle.ieee.specs.Format.{binary32};
 ghost use Rattle.ieee.specs.Answer.{signed};
-ghost use Rattle.pattern.specs.Neighbour.{neighbourOf, roundedFrom};
-use crate::Rounded;
+ghost use Rattle.pattern.specs.Neighbour.{neighbourOf};
 use kinds::Flag;
-use kinds::Rounding;
-use kinds::goes_away;
 
 // The finite pattern below an exact result. The midpoint to the next is reached where `half` is true, and something lies above what
 // is reached where `more` is true. `beyond` says that the exact result is 2^128 or more.
@@ -49,35 +45,6 @@ fn least(a: u64, b: u64) -> u64
     ensures { λ r. ⌜ r ≡ min a b ⌝ }
 {
     if a <= b { a } else { b }
-}
-
-// The neighbour that the rounding takes, with its sign, and the flags.
-pub fn round(rounding: Rounding, sign: u32, n: Neighbour) -> Rounded
-    requires { ⌜ (sign < 2) × (n .pattern < infinity binary32) ⌝ }
-    ensures { λ r. ⌜ r ≡ roundedFrom (modeOf (rounding .0)) sign n ⌝ }
-{
-    let odd = n.pattern % 2 == 1;
-    let t = next_if(
-        goes_away(rounding, sign == 1, odd, n.half, n.more),
-        n.pattern,
-    );
-    let inexact = n.half | n.more;
-    let overflow = n.beyond | (t == 0x7F80_0000);
-    let underflow = (n.pattern < 0x80_0000) & inexact;
-    let flags = flag_if(overflow, Flag::OVERFLOW)
-        + flag_if(underflow, Flag::UNDERFLOW)
-        + flag_if(inexact, Flag::INEXACT);
-    Rounded {
-        bits: with_sign(sign, t),
-        flags,
-    }
-}
-
-fn next_if(away: bool, t: u32) -> u32
-    requires { ⌜ t < infinity binary32 ⌝ }
-    ensures { λ r. ⌜ (r ≡ cond away (suc t) t) × (r ≤ infinity binary32) ⌝ }
-{
-    if away { t + 1 } else { t }
 }
 
 pub fn flag_if(on: bool, flag: Flag) -> u8

@@ -1,8 +1,8 @@
--- `pattern::neighbour::round` meets its contract: each call gives one part of the definition. Assumes nothing.
+-- `rounding::round` meets its contract: each call gives one part of the definition. Assumes nothing.
 use borrow.Author.Needs.{needs}
-use Rattle.pattern.specs.Neighbour.{roundedFrom}
-use Rattle.pattern.proofs.neighbour.round.Statement.{statement}
-use Rattle.pattern.proofs.neighbour.round.Tie as tie
+use Rattle.rounding.specs.Rounded.{roundedFrom}
+use Rattle.rounding.proofs.round.Statement.{statement}
+use Rattle.rounding.proofs.round.Tie as tie
 
 goes-away-requires : tie.Need-goes-away-requires
 goes-away-requires c κs = search needs

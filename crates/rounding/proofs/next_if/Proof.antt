@@ -1,8 +1,8 @@
--- `pattern::neighbour::next_if` meets its contract: one more is the successor. Assumes nothing.
+-- `rounding::next_if` meets its contract: one more is the successor. Assumes nothing.
 use borrow.Author.Needs.{needs}
-use Rattle.pattern.proofs.Assembly.{next-is}
-use Rattle.pattern.proofs.neighbour.next_if.Statement.{statement}
-use Rattle.pattern.proofs.neighbour.next_if.Tie as tie
+use Rattle.rounding.proofs.Next.{next-is}
+use Rattle.rounding.proofs.next_if.Statement.{statement}
+use Rattle.rounding.proofs.next_if.Tie as tie
 
 add-result : tie.Need-add-result
 add-result c = search needs
