@@ -5,7 +5,7 @@ use std::hint::black_box;
 use plate_tests::chance::Chance;
 use plate_tests::{calls, machine};
 
-use crate::timing::{best, line, ROUNDS};
+use crate::timing::{compare, side, Side, ROUNDS};
 
 const COUNT: usize = 4096;
 const ROUNDINGS: [&str; 4] = ["nearest", "up", "down", "toward zero"];
@@ -20,8 +20,8 @@ fn instruction(operation: u8, x: f32) -> f32 {
     }
 }
 
-fn unit_time(operation: u8, rounding: u8, operands: &[u32]) -> f64 {
-    best(operands.len(), || {
+fn unit(operation: u8, rounding: u8, operands: &[u32]) -> Side<'_> {
+    side("unit", move || {
         for &bits in operands {
             black_box(calls::binary32(black_box(operation), black_box(rounding), 0, bits));
         }
@@ -34,7 +34,7 @@ pub fn run() {
     let normal: Vec<u32> =
         (0..COUNT).map(|_| chance.range(0x0080_0000, 0x7E80_0000) as u32).collect();
     let any: Vec<u32> = (0..COUNT).map(|_| chance.next() as u32).collect();
-    compare(&normal);
+    check(&normal);
 
     println!(
         "binary32: ns a call, {COUNT} random normal operands, best of {ROUNDS} rounds; ratio is unit / other\n\
@@ -50,43 +50,41 @@ pub fn run() {
     for operation in 1..=3 {
         for rounding in 0..4 {
             let name = format!("{}, {}", OPERATIONS[operation as usize], ROUNDINGS[rounding as usize]);
-            let unit = unit_time(operation, rounding, &normal);
-            #[allow(unused_mut)]
-            let mut others = Vec::new();
+            let mut sides = vec![unit(operation, rounding, &normal)];
             if rounding == 0 {
-                others.push(("instruction", best(COUNT, || {
+                sides.push(side("instruction", || {
                     for &bits in &normal {
                         black_box(instruction(operation, black_box(f32::from_bits(bits))));
                     }
-                })));
+                }));
             }
             if operation < 3 {
-                others.push(("with flags", best(COUNT, || {
+                sides.push(side("with flags", || {
                     for &bits in &normal {
                         black_box(match operation {
                             1 => machine::reciprocal(rounding, bits),
                             _ => machine::root(rounding, bits),
                         });
                     }
-                })));
+                }));
             }
             #[cfg(feature = "mpfr")]
             {
-                others.push(("mpfr", crate::mpfr::time_alone(operation, rounding, &normal)));
-                others.push(("mpfr f32", crate::mpfr::time_whole(operation, rounding, &normal)));
+                sides.push(crate::mpfr::alone(operation, rounding, &normal));
+                sides.push(crate::mpfr::whole(operation, rounding, &normal));
             }
-            line(&name, unit, &others);
+            compare(&name, COUNT, sides);
         }
     }
     for operation in 1..=3 {
         let name = format!("{}, any bits", OPERATIONS[operation as usize]);
-        line(&name, unit_time(operation, 0, &any), &[]);
+        compare(&name, COUNT, vec![unit(operation, 0, &any)]);
     }
     println!();
 }
 
 /// The answers that are timed must be the same everywhere.
-fn compare(operands: &[u32]) {
+fn check(operands: &[u32]) {
     for &bits in operands {
         for rounding in 0..4 {
             for operation in 1..=3 {

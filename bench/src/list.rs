@@ -7,7 +7,10 @@ use std::hint::black_box;
 use plate_tests::calls::list as unit;
 use plate_tests::chance::Chance;
 
-use crate::timing::{best, line, ROUNDS};
+use crate::timing::{compare, side, Side, ROUNDS};
+
+/// The list of a 64 x 64 map.
+const LENGTH: usize = 12 * 62 * 62 + 16;
 
 /// t / sqrt(square) floored, root being the machine's root of square. The float
 /// quotient is off by less than 10^-11, so its whole part by at most one. All
@@ -127,55 +130,55 @@ pub fn run() {
     let plate = make_map(64, 64, 6_000, 6_000, |(c, row)| arch(c) + arch(row) + chance.range(-100, 100));
     let rough = make_map(64, 64, 1_000, 12_500, |_| chance.range(-50_000, 50_000));
     let flat = make_map(64, 64, 6_000, 6_000, |_| 0);
-    let length = 12 * 62 * 62 + 16;
 
     println!(
-        "list: ns a call, 64 x 64 map of 16,400 bytes, list of {length} bytes, best of {ROUNDS} rounds;\n\
+        "list: ns a call, 64 x 64 map of 16,400 bytes, list of {LENGTH} bytes, best of {ROUNDS} rounds;\n\
          \x20 ratio is unit / other. Neither side's buffer is cleared between calls, except\n\
          \x20 in the lines \"cleared\", where both are filled with zeros inside the timed call"
     );
     for (name, map) in [("plate", &plate), ("rough", &rough), ("flat", &flat)] {
         for (rounding, of) in ["nearest", "up", "down", "toward zero"].iter().enumerate() {
             let rounding = rounding as u8;
-            compare(rounding, map, &mut chance);
-            let mut list = vec![0; length];
-            let mut time = |call: fn(u8, &[u8], &mut [u8]) -> u64, clear: bool| {
-                best(1, || {
-                    if clear {
-                        list.fill(0);
-                    }
-                    black_box(call(black_box(rounding), black_box(map), black_box(&mut list)));
-                })
-            };
-            let unit_time = time(unit, false);
-            let other = time(float_root, false);
-            line(&format!("{name}, {of}"), unit_time, &[("float root", other)]);
+            check(rounding, map, &mut chance);
+            let sides = |clear| vec![timed("unit", unit, rounding, map, clear), timed("float root", float_root, rounding, map, clear)];
+            compare(&format!("{name}, {of}"), 1, sides(false));
             if rounding == 0 && name == "plate" {
-                let unit_time = time(unit, true);
-                let other = time(float_root, true);
-                line(&format!("{name}, {of}, cleared"), unit_time, &[("float root", other)]);
+                compare(&format!("{name}, {of}, cleared"), 1, sides(true));
             }
         }
     }
     println!();
 }
 
+type Call = fn(u8, &[u8], &mut [u8]) -> u64;
+
+/// A call over and over on a buffer of its own.
+fn timed<'a>(name: &'static str, call: Call, rounding: u8, map: &'a [u8], clear: bool) -> Side<'a> {
+    let mut list = vec![0; LENGTH];
+    side(name, move || {
+        if clear {
+            list.fill(0);
+        }
+        black_box(call(black_box(rounding), black_box(map), black_box(&mut list)));
+    })
+}
+
 /// Both sides on the same map and the same bytes, byte for byte, and on many
 /// small maps.
-fn compare(rounding: u8, map: &[u8], chance: &mut Chance) {
-    let mut check = |map: &[u8], room: usize| {
+fn check(rounding: u8, map: &[u8], chance: &mut Chance) {
+    let mut both = |map: &[u8], room: usize| {
         let lent = chance.bytes(room);
         let (mut left, mut right) = (lent.clone(), lent);
         assert_eq!(unit(rounding, map, &mut left), float_root(rounding, map, &mut right));
         assert!(left == right, "the lists differ");
     };
-    check(map, 12 * 62 * 62 + 16 + 5);
+    both(map, LENGTH + 5);
     let mut other = Chance(14);
     for _ in 0..300 {
         let (w, d) = (other.range(3, 12), other.range(3, 12));
         let (step, radius) = (other.range(1, 10_000) as u16, other.range(1, 12_500) as u16);
         let top = other.pick(&[2, 100, 50_000]);
         let small = make_map(w, d, step, radius, |_| other.range(-top, top));
-        check(&small, (12 * (w - 2) * (d - 2) + 16) as usize);
+        both(&small, (12 * (w - 2) * (d - 2) + 16) as usize);
     }
 }

@@ -3,7 +3,7 @@
 use std::ffi::{c_int, c_long, c_ulong};
 use std::hint::black_box;
 
-use crate::timing::best;
+use crate::timing::{side, Side};
 
 #[repr(C)]
 struct Number {
@@ -73,7 +73,7 @@ pub fn answer(operation: u8, rounding: u8, bits: u32) -> u32 {
 }
 
 /// The operation alone, its operands made beforehand.
-pub fn time_alone(operation: u8, rounding: u8, operands: &[u32]) -> f64 {
+pub fn alone(operation: u8, rounding: u8, operands: &[u32]) -> Side<'static> {
     let numbers: Vec<Number> = operands
         .iter()
         .map(|&bits| {
@@ -83,7 +83,7 @@ pub fn time_alone(operation: u8, rounding: u8, operands: &[u32]) -> f64 {
         })
         .collect();
     let mut to = Number::new();
-    best(operands.len(), || {
+    side("mpfr", move || {
         for x in &numbers {
             to.work(black_box(operation), black_box(rounding), x);
             black_box(&to);
@@ -92,9 +92,9 @@ pub fn time_alone(operation: u8, rounding: u8, operands: &[u32]) -> f64 {
 }
 
 /// From f32 to f32.
-pub fn time_whole(operation: u8, rounding: u8, operands: &[u32]) -> f64 {
+pub fn whole(operation: u8, rounding: u8, operands: &[u32]) -> Side<'_> {
     let (mut x, mut to) = (Number::new(), Number::new());
-    best(operands.len(), || {
+    side("mpfr f32", move || {
         for &bits in operands {
             x.set(bits);
             to.work(black_box(operation), black_box(rounding), &x);

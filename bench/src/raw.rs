@@ -5,7 +5,7 @@ use std::hint::black_box;
 use plate_tests::calls;
 use plate_tests::chance::Chance;
 
-use crate::timing::{best, line, ROUNDS};
+use crate::timing::{compare, side, ROUNDS};
 
 /// The largest w with w * w <= t.
 const fn root(t: u128) -> i64 {
@@ -86,17 +86,17 @@ pub fn run() {
             let given = calls::raw(operation, y, parity);
             assert_eq!(given, plain(operation, y, parity), "raw {operation} {y} {parity}");
         }
-        let unit = best(COUNT, || {
+        let unit = side("unit", || {
             for &y in &significands {
                 black_box(calls::raw(black_box(operation), y, black_box(parity)));
             }
         });
-        let other = best(COUNT, || {
+        let other = side("plain Rust", || {
             for &y in &significands {
                 black_box(plain(black_box(operation), y, black_box(parity)));
             }
         });
-        line(name, unit, &[("plain Rust", other)]);
+        compare(name, COUNT, vec![unit, other]);
     }
     println!();
 }
