@@ -1,7 +1,9 @@
 // Numbers in lines of text, for programs that read vectors. A number is its digits, and one byte behind them separates it from the next.
+ghost use mathlib.Core.Path.{_≡_};
 ghost use Prim.Native.Nat.{_+_, _≤_, _<_, _^_, min};
 ghost use lib.ListN.{length};
 ghost use Rattle.lines.specs.Read.{Read};
+ghost use Rattle.lines.specs.Hex.{hexDigit, hexOf};
 
 // A number that was read, and the place behind its separator.
 pub struct Number {
@@ -78,12 +80,16 @@ fn digit(b: u8) -> u64
 }
 
 // A number as a byte; one that is too large is 255.
-pub fn byte(x: u64) -> u8 {
+pub fn byte(x: u64) -> u8
+    ensures { λ r. ⌜ r ≡ min x 255 ⌝ }
+{
     if x < 256 { x as u8 } else { 255 }
 }
 
 // The eight hexadecimal digits of a pattern.
-pub fn hex(x: u32) -> [u8; 8] {
+pub fn hex(x: u32) -> [u8; 8]
+    ensures { λ r. ⌜ r ≡ hexOf x ⌝ }
+{
     [
         hex_digit(x / 268435456),
         hex_digit(x / 16777216),
@@ -97,7 +103,9 @@ pub fn hex(x: u32) -> [u8; 8] {
 }
 
 // The last hexadecimal digit of a number, in upper case.
-fn hex_digit(x: u32) -> u8 {
+fn hex_digit(x: u32) -> u8
+    ensures { λ r. ⌜ r ≡ hexDigit x ⌝ }
+{
     let d = (x % 16) as u8;
     if d < 10 { 48 + d } else { 55 + d }
 }
