@@ -7,8 +7,9 @@ use native.Mathlib.Decide.{decLt}
 use native.Mathlib.Omega.{arith}
 use borrow.Author.Tests.{leb-false, eqb-false, lt-ltb, le-ltb, le-leb, lt-leb, eq-eqb, ne-eqb}
 use lib.Dec.{eqb, ltb, leb}
-use Rattle.kinds.specs.Operation.{Op, isReciprocal}
-use Rattle.kinds.specs.Rounding.{Mode}
+use Rattle.kinds.specs.declared.Op.{Op}
+use Rattle.kinds.specs.Operation.{isReciprocal}
+use Rattle.kinds.specs.declared.Mode.{Mode}
 use Rattle.ieee.specs.Format.{binary32, infinity, magnitudeOf}
 use Rattle.ieee.specs.Answer.{Answer, signed, toFinite, answerTo, answerOf}
 use Rattle.ieee.proofs.Rounding.{rounded-is, flags-are}

@@ -9,7 +9,9 @@ use native.Mathlib.Decide.{decLt}
 use borrow.Author.Tests.{ne-eqb}
 use lib.Dec.{eqb}
 use lib.Pow.{pow-pos}
-use Rattle.kinds.specs.Operation.{Op, reciprocal, root, inverseRoot, opOf}
+use Rattle.kinds.specs.declared.Op.{Op}
+use Rattle.kinds.specs.declared.Op.the-variants.{Reciprocal, Root, InverseRoot}
+use Rattle.kinds.specs.Operation.{opOf}
 use Rattle.significand.specs.Steps.{rawOf}
 use Rattle.significand.specs.Distance.{Near}
 use Rattle.significand.proofs.Accepted.{raw-near}
@@ -28,27 +30,27 @@ use Rattle.floors.proofs.Reaching.{quotient-small}
 use Rattle.binary32.proofs.Scales.{reciprocal-guarded, root-guarded, inverse-guarded}
 
 -- the raw answers are near
-pub reciprocal-near : (y g : ℕ) → 8388608 ≤ y → y < 16777216 → g ≡ rawOf 7 3 reciprocal y 0 → Near reciprocal 7 3 y 0 12 g
-reciprocal-near y g low high e = raw-near reciprocal y 0 g low high (omega arith) e
+pub reciprocal-near : (y g : ℕ) → 8388608 ≤ y → y < 16777216 → g ≡ rawOf 7 3 Reciprocal y 0 → Near Reciprocal 7 3 y 0 12 g
+reciprocal-near y g low high e = raw-near Reciprocal y 0 g low high (omega arith) e
 
-pub root-near : (y n g : ℕ) → 8388608 ≤ y → y < 16777216 → g ≡ rawOf 7 3 root y (n % 2) → Near root 7 3 y (n % 2) 8 g
-root-near y n g low high e = raw-near root y (n % 2) g low high (omega arith) e
+pub root-near : (y n g : ℕ) → 8388608 ≤ y → y < 16777216 → g ≡ rawOf 7 3 Root y (n % 2) → Near Root 7 3 y (n % 2) 8 g
+root-near y n g low high e = raw-near Root y (n % 2) g low high (omega arith) e
 
-pub inverse-root-near : (y n g : ℕ) → 8388608 ≤ y → y < 16777216 → g ≡ rawOf 7 3 inverseRoot y (n % 2) → Near inverseRoot 7 3 y (n % 2) 8 g
-inverse-root-near y n g low high e = raw-near inverseRoot y (n % 2) g low high (omega arith) e
+pub inverse-root-near : (y n g : ℕ) → 8388608 ≤ y → y < 16777216 → g ≡ rawOf 7 3 InverseRoot y (n % 2) → Near InverseRoot 7 3 y (n % 2) 8 g
+inverse-root-near y n g low high e = raw-near InverseRoot y (n % 2) g low high (omega arith) e
 
 -- a floor has 25 bits, or is 2^25
 floor-small : (op : Op) (y p : ℕ) (r : Partial) → 8388608 ≤ y → y < 16777216 → p ≤ 1 → Reached op y (targetOf op y p) r 0 → r .quotient ≤ 2 ^ 25
 floor-small op y p r low high parity reached = quotient-small op y p (r .quotient) low high parity (omega (arith, reached .is))
 
-pub reciprocal-small : (y : ℕ) (r : Partial) → 8388608 ≤ y → y < 16777216 → Reached reciprocal y (2 ^ 48) r 0 → r .quotient ≤ 2 ^ 25
-reciprocal-small y r low high reached = floor-small reciprocal y 0 r low high (omega arith) reached
+pub reciprocal-small : (y : ℕ) (r : Partial) → 8388608 ≤ y → y < 16777216 → Reached Reciprocal y (2 ^ 48) r 0 → r .quotient ≤ 2 ^ 25
+reciprocal-small y r low high reached = floor-small Reciprocal y 0 r low high (omega arith) reached
 
-pub root-small : (y n : ℕ) (r : Partial) → 8388608 ≤ y → y < 16777216 → Reached root y (y * 2 ^ (25 + n % 2)) r 0 → r .quotient ≤ 2 ^ 25
-root-small y n r low high reached = floor-small root y (n % 2) r low high (omega arith) reached
+pub root-small : (y n : ℕ) (r : Partial) → 8388608 ≤ y → y < 16777216 → Reached Root y (y * 2 ^ (25 + n % 2)) r 0 → r .quotient ≤ 2 ^ 25
+root-small y n r low high reached = floor-small Root y (n % 2) r low high (omega arith) reached
 
-pub inverse-root-small : (y n : ℕ) (r : Partial) → 8388608 ≤ y → y < 16777216 → Reached inverseRoot y (2 ^ (73 - n % 2)) r 0 → r .quotient ≤ 2 ^ 25
-inverse-root-small y n r low high reached = floor-small inverseRoot y (n % 2) r low high (omega arith) reached
+pub inverse-root-small : (y n : ℕ) (r : Partial) → 8388608 ≤ y → y < 16777216 → Reached InverseRoot y (2 ^ (73 - n % 2)) r 0 → r .quotient ≤ 2 ^ 25
+inverse-root-small y n r low high reached = floor-small InverseRoot y (n % 2) r low high (omega arith) reached
 
 -- a scaled magnitude is not zero
 scaled-pos : (x : ℕ) (s : Scaled) → Scaling x s → 0 < x
@@ -63,30 +65,30 @@ unfolding neighbourOf
 neighbour-below op x q k more n pos g e = rw e (guarded-below binary32 op x q more k pos g (omega arith))
 
 module _ (e x : ℕ) (s : Scaled) (h : Scaling (magnitudeOf binary32 (patternOf e x)) s) (r : Partial) (n : Neighbour) where
-  pub reciprocal-below : Reached reciprocal (s .significand) (2 ^ 48) r 0
-      → n ≡ neighbourOf (r .quotient) (not (eqb (r .left) 0)) (276 - s .exponent) → BelowResult reciprocal e x n
+  pub reciprocal-below : Reached Reciprocal (s .significand) (2 ^ 48) r 0
+      → n ≡ neighbourOf (r .quotient) (not (eqb (r .left) 0)) (276 - s .exponent) → BelowResult Reciprocal e x n
   reciprocal-below reached i =
-      neighbour-below reciprocal _ _ _ _ n (scaled-pos _ s h)
+      neighbour-below Reciprocal _ _ _ _ n (scaled-pos _ s h)
       (reciprocal-guarded _ (s .significand) (s .exponent) (h .is) (h .low) (h .high) (h .small) r reached) i
 
-  pub root-below : Reached root (s .significand) (targetOf root (s .significand) ((s .exponent + 107) % 2)) r 0
-      → n ≡ neighbourOf (r .quotient) (not (eqb (r .left) 0)) ((s .exponent + 107) / 2) → BelowResult root e x n
+  pub root-below : Reached Root (s .significand) (targetOf Root (s .significand) ((s .exponent + 107) % 2)) r 0
+      → n ≡ neighbourOf (r .quotient) (not (eqb (r .left) 0)) ((s .exponent + 107) / 2) → BelowResult Root e x n
   root-below reached i =
-      neighbour-below root _ _ _ _ n (scaled-pos _ s h)
+      neighbour-below Root _ _ _ _ n (scaled-pos _ s h)
       (root-guarded _ (s .significand) (s .exponent) (h .is) (h .low) (h .high) (h .small) r reached) i
 
-  pub inverse-root-below : Reached inverseRoot (s .significand) (targetOf inverseRoot (s .significand) ((403 - s .exponent) % 2)) r 0
-      → n ≡ neighbourOf (r .quotient) (not (eqb (r .left) 0)) ((404 - s .exponent) / 2) → BelowResult inverseRoot e x n
+  pub inverse-root-below : Reached InverseRoot (s .significand) (targetOf InverseRoot (s .significand) ((403 - s .exponent) % 2)) r 0
+      → n ≡ neighbourOf (r .quotient) (not (eqb (r .left) 0)) ((404 - s .exponent) / 2) → BelowResult InverseRoot e x n
   inverse-root-below reached i =
-      neighbour-below inverseRoot _ _ _ _ n (scaled-pos _ s h)
+      neighbour-below InverseRoot _ _ _ _ n (scaled-pos _ s h)
       (inverse-guarded _ (s .significand) (s .exponent) (h .is) (h .low) (h .high) (h .small) r reached) i
 
 -- the operation by its number
-pub below-first : (n e x : ℕ) (r : Neighbour) → n ≡ 1 → BelowResult reciprocal e x r → BelowResult (opOf n) e x r
+pub below-first : (n e x : ℕ) (r : Neighbour) → n ≡ 1 → BelowResult Reciprocal e x r → BelowResult (opOf n) e x r
 below-first n e x r p b = rw p b
 
-pub below-second : (n e x : ℕ) (r : Neighbour) → n ≡ 2 → BelowResult root e x r → BelowResult (opOf n) e x r
+pub below-second : (n e x : ℕ) (r : Neighbour) → n ≡ 2 → BelowResult Root e x r → BelowResult (opOf n) e x r
 below-second n e x r p b = rw p b
 
-pub below-third : {n : ℕ} → (n ≡ 1 → ⊥) → (n ≡ 2 → ⊥) → (e x : ℕ) (r : Neighbour) → BelowResult inverseRoot e x r → BelowResult (opOf n) e x r
+pub below-third : {n : ℕ} → (n ≡ 1 → ⊥) → (n ≡ 2 → ⊥) → (e x : ℕ) (r : Neighbour) → BelowResult InverseRoot e x r → BelowResult (opOf n) e x r
 below-third {n} p q e x r b = simp (ne-eqb n 1 p, ne-eqb n 2 q) b

@@ -9,7 +9,8 @@ use native.Mathlib.Omega.{arith}
 use borrow.Author.Tests.{eq-eqb, ne-eqb}
 use lib.Dec.{eqb}
 use lib.Pow.{pow-pos}
-use Rattle.kinds.specs.Operation.{Op, reciprocal, root, inverseRoot}
+use Rattle.kinds.specs.declared.Op.{Op}
+use Rattle.kinds.specs.declared.Op.the-variants.{Reciprocal, Root, InverseRoot}
 use Rattle.numbers.proofs.Powers.{power-sum}
 use Rattle.ieee.specs.Format.{binary32, unitOf}
 use Rattle.ieee.specs.Rounded.{side, limit, twice}
@@ -39,23 +40,23 @@ quotient-large op y p q low high parity h =
     by-cases (decLt q (2 ^ 24)) (λ l. absurd (go op p parity (lt-of-lt-of-le h (side-rising op y l)))) (λ l. omega arith)
   where
     go : (o : Op) (n : ℕ) → n ≤ 1 → targetOf o y n < side o y (2 ^ 24) → ⊥
-    go reciprocal n b k = omega arith
-    go root zero b k = omega arith
-    go root (suc zero) b k = omega arith
-    go root (suc (suc n)) b k = omega arith
-    go inverseRoot zero b k = omega arith
-    go inverseRoot (suc zero) b k = omega arith
-    go inverseRoot (suc (suc n)) b k = omega arith
+    go Reciprocal n b k = omega arith
+    go Root zero b k = omega arith
+    go Root (suc zero) b k = omega arith
+    go Root (suc (suc n)) b k = omega arith
+    go InverseRoot zero b k = omega arith
+    go InverseRoot (suc zero) b k = omega arith
+    go InverseRoot (suc (suc n)) b k = omega arith
 
 -- and 2^25 nothing over
 quotient-top : (op : Op) (y p l : ℕ) → 8388608 ≤ y → y < 16777216 → p ≤ 1 → side op y (2 ^ 25) + l ≡ targetOf op y p → l ≡ 0
-quotient-top reciprocal y p l low high parity e = omega arith
-quotient-top root y zero l low high parity e = omega arith
-quotient-top root y (suc zero) l low high parity e = omega arith
-quotient-top root y (suc (suc p)) l low high parity e = omega arith
-quotient-top inverseRoot y zero l low high parity e = omega arith
-quotient-top inverseRoot y (suc zero) l low high parity e = omega arith
-quotient-top inverseRoot y (suc (suc p)) l low high parity e = omega arith
+quotient-top Reciprocal y p l low high parity e = omega arith
+quotient-top Root y zero l low high parity e = omega arith
+quotient-top Root y (suc zero) l low high parity e = omega arith
+quotient-top Root y (suc (suc p)) l low high parity e = omega arith
+quotient-top InverseRoot y zero l low high parity e = omega arith
+quotient-top InverseRoot y (suc zero) l low high parity e = omega arith
+quotient-top InverseRoot y (suc (suc p)) l low high parity e = omega arith
 
 -- The magnitude x stands to the significand y by factors a and b: sides and limits go over from one to the other
 module _ (op : Op) (x y p k : ℕ) (a b : ℕ) (pos-a : 0 < a) (pos-b : 0 < b) (low : 8388608 ≤ y) (high : y < 16777216) (parity : p ≤ 1)
@@ -91,24 +92,24 @@ powers-three i j k m n e =
 -- The scales: x × 2^23 is y × 2^j
 module _ (x y j : ℕ) (is : x * 2 ^ 23 ≡ y * 2 ^ j) (low : 8388608 ≤ y) (high : y < 16777216) (small : j ≤ 276) where
   -- the reciprocal's is 276 − j, the two lowest being those of subnormal results
-  pub reciprocal-guarded : (r : Partial) → Reached reciprocal y (targetOf reciprocal y 0) r 0
-      → Guarded binary32 reciprocal x (r .quotient) (not (eqb (r .left) 0)) (276 - j)
+  pub reciprocal-guarded : (r : Partial) → Reached Reciprocal y (targetOf Reciprocal y 0) r 0
+      → Guarded binary32 Reciprocal x (r .quotient) (not (eqb (r .left) 0)) (276 - j)
   reciprocal-guarded =
       let k : ℕ = 276 - j in
       let c : 2 ^ (k - 2) * 2 ^ j ≡ 2 ^ (274 + (2 - k)) = power-sum (k - 2) j (274 + (2 - k)) (omega arith) in
-      carried reciprocal x y 0 k (2 ^ 23) (2 ^ (274 + (2 - k))) (pow-pos 23) (pow-pos (274 + (2 - k))) low high (omega arith)
+      carried Reciprocal x y 0 k (2 ^ 23) (2 ^ (274 + (2 - k))) (pow-pos 23) (pow-pos (274 + (2 - k))) low high (omega arith)
       (λ q. rw (← c) (omega (arith, ap (λ (n : ℕ). n * (q * 2 ^ (k - 2))) is)))
       (powers-three 23 (suc (2 - k)) 298 (274 + (2 - k)) 48 (omega arith))
 
   -- the root's is half of j + 107, floored, and the parity is what is over
-  pub root-guarded : (r : Partial) → Reached root y (targetOf root y ((j + 107) % 2)) r 0
-      → Guarded binary32 root x (r .quotient) (not (eqb (r .left) 0)) ((j + 107) / 2)
+  pub root-guarded : (r : Partial) → Reached Root y (targetOf Root y ((j + 107) % 2)) r 0
+      → Guarded binary32 Root x (r .quotient) (not (eqb (r .left) 0)) ((j + 107) / 2)
   root-guarded =
       let k : ℕ = (j + 107) / 2 in
       let p : ℕ = (j + 107) % 2 in
       let z : 2 - k ≡ 0 = omega arith in
       let c : 2 ^ (23 + p) * (2 ^ (k - 2) * 2 ^ (k - 2)) ≡ 2 ^ (j + 126) * 2 ^ 0 = powers-three (23 + p) (k - 2) (k - 2) (j + 126) 0 (omega arith) in
-      carried root x y p k (2 ^ (23 + p)) (2 ^ (j + 126)) (pow-pos (23 + p)) (pow-pos (j + 126)) low high (omega arith)
+      carried Root x y p k (2 ^ (23 + p)) (2 ^ (j + 126)) (pow-pos (23 + p)) (pow-pos (j + 126)) low high (omega arith)
       (λ q. omega (arith, ap (λ (n : ℕ). n * (q * q)) c))
       (rw z (root-limit p 149 refl))
     where
@@ -120,13 +121,13 @@ module _ (x y j : ℕ) (is : x * 2 ^ 23 ≡ y * 2 ^ j) (low : 8388608 ≤ y) (hi
           rw a (omega (arith, ap (λ (n : ℕ). n * (4 * 2 ^ p * 2 ^ u)) is, ap (λ (n : ℕ). y * n) b, ap (λ (n : ℕ). y * (n * (2 ^ p * 2 ^ u))) c))
 
   -- the inverse root's is half of 403 − j, rounded up, and the parity is what was added
-  pub inverse-guarded : (r : Partial) → Reached inverseRoot y (targetOf inverseRoot y ((403 - j) % 2)) r 0
-      → Guarded binary32 inverseRoot x (r .quotient) (not (eqb (r .left) 0)) ((404 - j) / 2)
+  pub inverse-guarded : (r : Partial) → Reached InverseRoot y (targetOf InverseRoot y ((403 - j) % 2)) r 0
+      → Guarded binary32 InverseRoot x (r .quotient) (not (eqb (r .left) 0)) ((404 - j) / 2)
   inverse-guarded =
       let k : ℕ = (404 - j) / 2 in
       let p : ℕ = (403 - j) % 2 in
       let z : 2 - k ≡ 0 = omega arith in
       let c : 2 ^ (k - 2) * (2 ^ (k - 2) * 2 ^ j) ≡ 2 ^ (399 + p) * 2 ^ 0 = powers-three (k - 2) (k - 2) j (399 + p) 0 (omega arith) in
-      carried inverseRoot x y p k (2 ^ 23) (2 ^ (399 + p)) (pow-pos 23) (pow-pos (399 + p)) low high (omega arith)
+      carried InverseRoot x y p k (2 ^ 23) (2 ^ (399 + p)) (pow-pos 23) (pow-pos (399 + p)) low high (omega arith)
       (λ q. omega (arith, ap (λ (n : ℕ). n * (q * 2 ^ (k - 2) * (q * 2 ^ (k - 2)))) is, ap (λ (n : ℕ). n * (q * q * y)) c))
       (rw z (powers-three 23 2 447 (399 + p) (73 - p) (omega arith)))

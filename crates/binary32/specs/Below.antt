@@ -1,6 +1,6 @@
 -- The pattern below the exact result of an operand. Assumes nothing.
 use Prim.Native.Nat.{ℕ}
-use Rattle.kinds.specs.Operation.{Op}
+use Rattle.kinds.specs.declared.Op.{Op}
 use Rattle.ieee.specs.Format.{binary32, magnitudeOf}
 use Rattle.ieee.specs.Guarded.{Below}
 use Rattle.pattern.specs.Parts.{patternOf}

@@ -1,5 +1,6 @@
 // The pattern below the exact result of each operation on a positive finite operand, through the raw unit.
-ghost use Rattle.kinds.specs.Operation.{opOf, reciprocal as Op·reciprocal, root as Op·root, inverseRoot as Op·inverseRoot};
+ghost use Rattle.kinds.specs.declared.Op.the-variants.{Reciprocal, Root, InverseRoot};
+ghost use Rattle.kinds.specs.Operation.{opOf};
 ghost use Rattle.floors.specs.Operand.{Ordinary};
 ghost use Rattle.binary32.specs.Below.{BelowResult};
 use floors::floor;
@@ -24,7 +25,7 @@ pub fn below(operation: Operation, exponent: u32, fraction: u32) -> Neighbour
 // With X = y / 2^23 × 2^e, e = x.exponent − 149, the reciprocal is 1 / (y / 2^23) × 2^-e.
 fn reciprocal(exponent: u32, fraction: u32) -> Neighbour
     requires { ⌜ Ordinary exponent fraction ⌝ }
-    ensures { λ r. ⌜ BelowResult Op·reciprocal exponent fraction r ⌝ }
+    ensures { λ r. ⌜ BelowResult Reciprocal exponent fraction r ⌝ }
 {
     let x = scale(exponent, fraction);
     let y = x.significand;
@@ -36,7 +37,7 @@ fn reciprocal(exponent: u32, fraction: u32) -> Neighbour
 // e is 2h + p. Raised by 256 it is not negative, so that the halving floors: −3 is twice −2 with parity 1.
 fn root(exponent: u32, fraction: u32) -> Neighbour
     requires { ⌜ Ordinary exponent fraction ⌝ }
-    ensures { λ r. ⌜ BelowResult Op·root exponent fraction r ⌝ }
+    ensures { λ r. ⌜ BelowResult Root exponent fraction r ⌝ }
 {
     let x = scale(exponent, fraction);
     let y = x.significand;
@@ -49,7 +50,7 @@ fn root(exponent: u32, fraction: u32) -> Neighbour
 // −e is 2h − p, and 1 / √X is 1 / √(2^p × y / 2^23) × 2^h: the halving rounds up.
 fn inverse_root(exponent: u32, fraction: u32) -> Neighbour
     requires { ⌜ Ordinary exponent fraction ⌝ }
-    ensures { λ r. ⌜ BelowResult Op·inverseRoot exponent fraction r ⌝ }
+    ensures { λ r. ⌜ BelowResult InverseRoot exponent fraction r ⌝ }
 {
     let x = scale(exponent, fraction);
     let y = x.significand;

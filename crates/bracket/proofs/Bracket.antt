@@ -6,7 +6,7 @@ use mathlib.Core.Logic.{_↔_}
 use Prim.Native.Nat.{ℕ, _*_, _<_}
 use lib.ListN.{length}
 use lib.IntN.{ℤ, pos, _+ℤ_}
-use Rattle.kinds.specs.Rounding.{up, down}
+use Rattle.kinds.specs.declared.Mode.the-variants.{Up, Down}
 use Rattle.words.specs.Word.{wordAt}
 use Rattle.words.specs.Signed.{signed}
 use Rattle.words.proofs.Runs.{joined-same, joined-apart}
@@ -25,31 +25,31 @@ use Rattle.bracket.proofs.Entries.{record-entry, centre-small, list-hel
 
 module _ (m : List ℕ) {room : ℕ} (a : Accepted m room) where
   -- the same bytes come from the same centres
-  same-centres : listBytes down m ≡ listBytes up m → (n : ℕ) → n < countOf (widthOf m) (depthOf m) → centreAt down m n ≡ centreAt up m n
+  same-centres : listBytes Down m ≡ listBytes Up m → (n : ℕ) → n < countOf (widthOf m) (depthOf m) → centreAt Down m n ≡ centreAt Up m n
   unfolding listBytes recordAt
   same-centres e n h =
-      let r : recordBytes (centreAt down m n) ≡ recordBytes (centreAt up m n) =
-      joined-apart (recordAt down m) (recordAt up m) 12 (length-record down m) (length-record up m) (countOf (widthOf m) (depthOf m)) _ _ e n h in
-      same-centre (centreAt down m n) (centreAt up m n)
+      let r : recordBytes (centreAt Down m n) ≡ recordBytes (centreAt Up m n) =
+      joined-apart (recordAt Down m) (recordAt Up m) 12 (length-record Down m) (length-record Up m) (countOf (widthOf m) (depthOf m)) _ _ e n h in
+      same-centre (centreAt Down m n) (centreAt Up m n)
       (λ j l.
-      sym (record-entry (centreAt down m n) (centre-small down m a n h) j l)
+      sym (record-entry (centreAt Down m n) (centre-small Down m a n h) j l)
       ∙ ap (λ (s : List ℕ). signed (wordAt s (4 * j))) r
-      ∙ record-entry (centreAt up m n) (centre-small up m a n h) j l)
+      ∙ record-entry (centreAt Up m n) (centre-small Up m a n h) j l)
 
   -- and the same centres give the same bytes
-  same-bytes : ((n : ℕ) → n < countOf (widthOf m) (depthOf m) → centreAt down m n ≡ centreAt up m n) → listBytes down m ≡ listBytes up m
+  same-bytes : ((n : ℕ) → n < countOf (widthOf m) (depthOf m) → centreAt Down m n ≡ centreAt Up m n) → listBytes Down m ≡ listBytes Up m
   unfolding listBytes recordAt
   same-bytes e =
       let c = countOf (widthOf m) (depthOf m) in
       ap (λ (s : List ℕ). s ++ trailerBytes (12 * c) (widthOf m) (depthOf m) (stepOf m) (radiusOf m))
-      (joined-same (recordAt down m) (recordAt up m) c (λ n h. ap recordBytes (e n h)))
+      (joined-same (recordAt Down m) (recordAt Up m) c (λ n h. ap recordBytes (e n h)))
 
   -- the bracket of each centre
   at-point : (n : ℕ) → n < countOf (widthOf m) (depthOf m) → CentreBracket (stepOf m) (radiusOf m) (innerPoint m n)
   at-point n h = centre-bracket (stepOf m) (radiusOf m) (innerPoint m n) (inner-in-range m a n h)
 
   -- the lists are equal where the map is exact
-  lists-equal : (listBytes down m ≡ listBytes up m) ↔ ExactMap m
+  lists-equal : (listBytes Down m ≡ listBytes Up m) ↔ ExactMap m
   unfolding centreAt
   lists-equal = (
     λ e. at-every m (λ (p : Point). ExactAt (stepOf m) (radiusOf m) p) (a .sizes .wide) (λ n h. at-point n h .equal .0 (same-centres e n h)),
@@ -58,8 +58,8 @@ module _ (m : List ℕ) {room : ℕ} (a : Accepted m room) where
 
   -- coordinates that differ are one apart
   entries-next : (n j : ℕ) → n < countOf (widthOf m) (depthOf m)
-      → (coordinate (centreAt down m n) j ≡ coordinate (centreAt up m n) j → ⊥)
-      → coordinate (centreAt up m n) j ≡ coordinate (centreAt down m n) j +ℤ pos 1
+      → (coordinate (centreAt Down m n) j ≡ coordinate (centreAt Up m n) j → ⊥)
+      → coordinate (centreAt Up m n) j ≡ coordinate (centreAt Down m n) j +ℤ pos 1
   unfolding centreAt
   entries-next n j h d = at-point n h .next j d
 

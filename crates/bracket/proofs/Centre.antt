@@ -8,7 +8,8 @@ use native.Mathlib.Nat.{mul-le-mul, mul-pos}
 use native.Mathlib.Omega.{arith}
 use lib.Dec.{lit<, ltb}
 use lib.IntN.{ℤ, pos, negsuc, negℤ, natAbs, subℕ, _+ℤ_, +ℤ-assoc, +ℤ-invl, +ℤ-idl}
-use Rattle.kinds.specs.Rounding.{Mode, up, down}
+use Rattle.kinds.specs.declared.Mode.{Mode}
+use Rattle.kinds.specs.declared.Mode.the-variants.{Up, Down}
 use Rattle.numbers.proofs.Squares.{square-same}
 use Rattle.words.proofs.Differences.{abs-neg}
 use Rattle.cutter.specs.Offset.{squaredLength, offsetOf, MultipleOf}
@@ -116,10 +117,10 @@ module _ (step radius : ℕ) (p : Point) (h : InRange step radius p) where
 
   -- the lower and the upper coordinates
   abbrev low : ℕ → ℤ
-  low j = coordinate (centreOf down step radius p) j
+  low j = coordinate (centreOf Down step radius p) j
 
   abbrev high : ℕ → ℤ
-  high j = coordinate (centreOf up step radius p) j
+  high j = coordinate (centreOf Up step radius p) j
 
   -- a whole offset
   abbrev Along : ℕ → Type 0
@@ -131,24 +132,24 @@ module _ (step radius : ℕ) (p : Point) (h : InRange step radius p) where
 
   -- coordinates are equal where the offsets are
   same-along : (j : ℕ)
-      → offsetOf down (normalAlong step p j) radius (lengthAt step p) ≡ offsetOf up (normalAlong step p j) radius (lengthAt step p)
+      → offsetOf Down (normalAlong step p j) radius (lengthAt step p) ≡ offsetOf Up (normalAlong step p j) radius (lengthAt step p)
       → low j ≡ high j
   same-along j e =
-      coordinate-is down step radius p j ∙ ap (λ (z : ℤ). pointAlong step p j +ℤ z) e ∙ sym (coordinate-is up step radius p j)
+      coordinate-is Down step radius p j ∙ ap (λ (z : ℤ). pointAlong step p j +ℤ z) e ∙ sym (coordinate-is Up step radius p j)
 
   -- a coordinate that differs is one more
   next-along : (j : ℕ) → (low j ≡ high j → ⊥) → high j ≡ low j +ℤ pos 1
   next-along j n =
-      coordinate-is up step radius p j
+      coordinate-is Up step radius p j
       ∙ ap (λ (z : ℤ). pointAlong step p j +ℤ z) (along j .next (λ e. n (same-along j e)))
-      ∙ sym (+ℤ-assoc (pointAlong step p j) (offsetOf down (normalAlong step p j) radius (lengthAt step p)) (pos 1))
-      ∙ ap (λ (z : ℤ). z +ℤ pos 1) (sym (coordinate-is down step radius p j))
+      ∙ sym (+ℤ-assoc (pointAlong step p j) (offsetOf Down (normalAlong step p j) radius (lengthAt step p)) (pos 1))
+      ∙ ap (λ (z : ℤ). z +ℤ pos 1) (sym (coordinate-is Down step radius p j))
 
   -- equal coordinates have a whole offset
   whole-along : (j : ℕ) → low j ≡ high j → Along j
   whole-along j e =
       along j .equal .0
-      (cancel (pointAlong step p j) _ _ (sym (coordinate-is down step radius p j) ∙ e ∙ coordinate-is up step radius p j))
+      (cancel (pointAlong step p j) _ _ (sym (coordinate-is Down step radius p j) ∙ e ∙ coordinate-is Up step radius p j))
 
   -- the z component is positive, so it gives the root
   exact-of : ((j : ℕ) → low j ≡ high j) → ExactAt step radius p

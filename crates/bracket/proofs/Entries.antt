@@ -5,7 +5,8 @@ use Prim.Native.Nat.{ℕ, zero, suc, _+_, _*_, _<_}
 use native.Mathlib.Omega.{arith}
 use lib.ListN.{length, drop}
 use lib.IntN.{natAbs}
-use Rattle.kinds.specs.Rounding.{Mode, modeOf}
+use Rattle.kinds.specs.declared.Mode.{Mode}
+use Rattle.kinds.specs.Rounding.{modeOf}
 use Rattle.words.specs.Word.{wordAt}
 use Rattle.words.specs.Signed.{signed, wordOf}
 use Rattle.words.specs.Splice.{splice}

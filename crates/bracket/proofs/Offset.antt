@@ -9,7 +9,8 @@ use native.Mathlib.Decide.{ℕ-discrete, decLt}
 use native.Mathlib.Omega.{arith}
 use lib.Dec.{leb→le, le→leb}
 use lib.IntN.{ℤ, pos, negsuc, natAbs, sucℤ, _+ℤ_, +ℤ-one}
-use Rattle.kinds.specs.Rounding.{Mode, up, down}
+use Rattle.kinds.specs.declared.Mode.{Mode}
+use Rattle.kinds.specs.declared.Mode.the-variants.{Up, Down}
 use Rattle.kinds.proofs.Directed as directed
 use Rattle.kinds.proofs.Neighbours.{next-most}
 use Rattle.numbers.proofs.Greatest.{greatest-found, greatest-above, squareFits, square-antitone}
@@ -89,11 +90,11 @@ unfolding roundedOver placeOver
 rounded-exact mode negative n q e = directed.rounded-exact _ _ _ _ _ _ mode e
 
 -- anywhere else down goes on where the number is negative, and up where it is not
-rounded-down : (negative : Bool) (n q : ℕ) → (Reached n q → ⊥) → roundedOver down negative n q ≡ cond negative (suc (floorOver n q)) (floorOver n q)
+rounded-down : (negative : Bool) (n q : ℕ) → (Reached n q → ⊥) → roundedOver Down negative n q ≡ cond negative (suc (floorOver n q)) (floorOver n q)
 unfolding roundedOver placeOver
 rounded-down negative n q h = directed.rounded-down _ _ _ _ _ _ h
 
-rounded-up : (negative : Bool) (n q : ℕ) → (Reached n q → ⊥) → roundedOver up negative n q ≡ cond (not negative) (suc (floorOver n q)) (floorOver n q)
+rounded-up : (negative : Bool) (n q : ℕ) → (Reached n q → ⊥) → roundedOver Up negative n q ≡ cond (not negative) (suc (floorOver n q)) (floorOver n q)
 unfolding roundedOver placeOver
 rounded-up negative n q h = directed.rounded-up _ _ _ _ _ _ h
 
@@ -122,11 +123,11 @@ not-next z e = differ z (ap natAbs (e ∙ +ℤ-one z))
 
 module _ (component : ℤ) (radius q : ℕ) where
   -- at an exact floor the offsets are equal, and anywhere else one apart
-  offsets-same : Reached (natAbs component * radius) q → offsetOf down component radius q ≡ offsetOf up component radius q
+  offsets-same : Reached (natAbs component * radius) q → offsetOf Down component radius q ≡ offsetOf Up component radius q
   unfolding offsetOf
-  offsets-same e = rw (rounded-exact down _ _ _ e, rounded-exact up _ _ _ e)
+  offsets-same e = rw (rounded-exact Down _ _ _ e, rounded-exact Up _ _ _ e)
 
-  offsets-apart : (Reached (natAbs component * radius) q → ⊥) → offsetOf up component radius q ≡ offsetOf down component radius q +ℤ pos 1
+  offsets-apart : (Reached (natAbs component * radius) q → ⊥) → offsetOf Up component radius q ≡ offsetOf Down component radius q +ℤ pos 1
   unfolding offsetOf
   offsets-apart h =
       rw (rounded-down _ _ _ h, rounded-up _ _ _ h) (one-above (isNegative component) (floorOver (natAbs component * radius) q))
@@ -146,6 +147,6 @@ module _ (component : ℤ) (radius q : ℕ) where
       (λ e. record { equal = (λ s. reached-whole q n e, λ w. offsets-same e); next = λ h. absurd (h (offsets-same e)) })
       (λ h.
       record {
-        equal = (λ s. absurd (not-next (offsetOf down component radius q) (s ∙ offsets-apart h)), λ w. absurd (h (whole-reached q n hq hn w)));
+        equal = (λ s. absurd (not-next (offsetOf Down component radius q) (s ∙ offsets-apart h)), λ w. absurd (h (whole-reached q n hq hn w)));
         next = λ s. offsets-apart h;
       })

@@ -5,7 +5,8 @@ use mathlib.Core.Logic.{_↔_, _⊎_}
 use mathlib.Core.List.{List}
 use lib.ListN.{length, take, drop}
 use lib.IntN.{ℤ, pos, natAbs, _+ℤ_}
-use Rattle.kinds.specs.Rounding.{modeOf, up, down}
+use Rattle.kinds.specs.declared.Mode.the-variants.{Up, Down}
+use Rattle.kinds.specs.Rounding.{modeOf}
 use Rattle.cutter.specs.Offset.{offsetOf, MultipleOf}
 use Rattle.cutter.specs.Map.{widthOf, depthOf}
 use Rattle.cutter.specs.Centre.{Point, Centre, centreOf}
@@ -25,10 +26,10 @@ WholeOver q n = (n ≡ 0) ⊎ DividedBy q n
 
 -- One offset: the lower and the upper are equal exactly where component × radius over √q is whole; otherwise the upper is larger by 1
 pub record OffsetBracket (component : ℤ) (radius q : ℕ) : Type 0 where
-  pub equal : (offsetOf down component radius q ≡ offsetOf up component radius q) ↔ WholeOver q (natAbs component * radius)
+  pub equal : (offsetOf Down component radius q ≡ offsetOf Up component radius q) ↔ WholeOver q (natAbs component * radius)
   pub next :
-      (offsetOf down component radius q ≡ offsetOf up component radius q → ⊥)
-      → offsetOf up component radius q ≡ offsetOf down component radius q +ℤ pos 1
+      (offsetOf Down component radius q ≡ offsetOf Up component radius q → ⊥)
+      → offsetOf Up component radius q ≡ offsetOf Down component radius q +ℤ pos 1
 
 -- the x, y or z of a centre (j is 0, 1 or 2)
 abbrev pub coordinate : Centre → ℕ → ℤ
@@ -38,10 +39,10 @@ coordinate k (suc (suc j)) = k .z
 
 -- One centre: the lower and the upper are equal exactly where the point is exact; a coordinate that differs is larger by 1 in the upper
 pub record CentreBracket (step radius : ℕ) (p : Point) : Type 0 where
-  pub equal : (centreOf down step radius p ≡ centreOf up step radius p) ↔ ExactAt step radius p
+  pub equal : (centreOf Down step radius p ≡ centreOf Up step radius p) ↔ ExactAt step radius p
   pub next : (j : ℕ)
-      → (coordinate (centreOf down step radius p) j ≡ coordinate (centreOf up step radius p) j → ⊥)
-      → coordinate (centreOf up step radius p) j ≡ coordinate (centreOf down step radius p) j +ℤ pos 1
+      → (coordinate (centreOf Down step radius p) j ≡ coordinate (centreOf Up step radius p) j → ⊥)
+      → coordinate (centreOf Up step radius p) j ≡ coordinate (centreOf Down step radius p) j +ℤ pos 1
 
 -- After an accepted call: the length reported is the list's; the list stands at the buffer's front, entry j of record n being
 -- coordinate j of the centre n, and the caller's bytes stand behind it

@@ -9,7 +9,7 @@ use mir.Val.{Fits}
 use mir.Syntax.{w64}
 use lib.ListN.{length}
 use lib.IntN.{ℤ, pos, negℤ, _+ℤ_}
-use Rattle.kinds.specs.Rounding.{Mode}
+use Rattle.kinds.specs.declared.Mode.{Mode}
 use Rattle.words.specs.Word.{wordAt, wordBytes}
 use Rattle.words.specs.Signed.{signed, wordOf, withSign}
 use Rattle.words.specs.Parts.{partsOf}

@@ -2,7 +2,7 @@
 use Prim.Native.Nat.{ℕ, _*_, _≤_}
 use mathlib.Core.Bool.{false}
 use mathlib.Core.List.{List, _++_}
-use Rattle.kinds.specs.Rounding.{Mode}
+use Rattle.kinds.specs.declared.Mode.{Mode}
 use Rattle.words.specs.Word.{wordBytes}
 use Rattle.words.specs.declared.Signed.{Signed}
 use Rattle.cutter.specs.Offset.{roundedOver}

@@ -4,7 +4,7 @@ use mathlib.Core.List.{List}
 use Prim.Native.Nat.{ℕ, _*_}
 use native.Mathlib.Omega.{arith}
 use lib.ListN.{length, length-append}
-use Rattle.kinds.specs.Rounding.{Mode}
+use Rattle.kinds.specs.declared.Mode.{Mode}
 use Rattle.words.specs.Word.{wordBytes, halfBytes}
 use Rattle.words.specs.Joined.{joined}
 use Rattle.words.proofs.Runs.{length-joined}

@@ -5,7 +5,7 @@ use Prim.Native.Nat.{ℕ, _+_, _-_, _*_, _/_, _≤_, _<_}
 use native.Mathlib.Omega.{arith}
 use lib.ListN.{length, getD, set, length-set}
 use lib.Seq.{getD-set-other}
-use Rattle.kinds.specs.Rounding.{Mode}
+use Rattle.kinds.specs.declared.Mode.{Mode}
 use Rattle.words.specs.Word.{halfAt, wordAt}
 use Rattle.cutter.specs.Map.{widthOf, stepOf, radiusOf, heightAt, dxAt, dyAt}
 use Rattle.cutter.specs.Centre.{pointAt}

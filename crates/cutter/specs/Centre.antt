@@ -2,7 +2,7 @@
 use Prim.Native.Nat.{ℕ, _*_}
 use mathlib.Core.List.{List, _++_}
 use lib.IntN.{ℤ, pos, negℤ, _+ℤ_}
-use Rattle.kinds.specs.Rounding.{Mode}
+use Rattle.kinds.specs.declared.Mode.{Mode}
 use Rattle.words.specs.Word.{wordBytes}
 use Rattle.words.specs.Signed.{wordOf}
 use Rattle.cutter.specs.Offset.{squaredLength, offsetOf}

@@ -1,7 +1,7 @@
 -- The list of a map: one record per inner point, row by row, then a trailer. Assumes nothing.
 use Prim.Native.Nat.{ℕ, _+_, _-_, _*_, _/_, _%_}
 use mathlib.Core.List.{List, [], _∷_, _++_}
-use Rattle.kinds.specs.Rounding.{Mode}
+use Rattle.kinds.specs.declared.Mode.{Mode}
 use Rattle.words.specs.Word.{halfBytes, wordBytes}
 use Rattle.words.specs.Joined.{joined}
 use Rattle.cutter.specs.Map.{widthOf, depthOf, stepOf, radiusOf}

@@ -4,7 +4,8 @@ use mathlib.Core.Path.{_≡_}
 use mathlib.Core.Bool.{Bool}
 use lib.Dec.{leb}
 use lib.IntN.{ℤ, natAbs}
-use Rattle.kinds.specs.Rounding.{Mode, Place, placeBy, roundedBy}
+use Rattle.kinds.specs.declared.Mode.{Mode}
+use Rattle.kinds.specs.Rounding.{Place, placeBy, roundedBy}
 use Rattle.numbers.specs.Greatest.{greatest}
 use Rattle.words.specs.Signed.{withSign, isNegative}
 

@@ -11,7 +11,8 @@ use lib.Dec.{leb}
 use lib.Pow.{split, pow-add, pow-lt}
 use mir.Syntax.{w64}
 use mir.Val.{Fits}
-use Rattle.kinds.specs.Operation.{Op, reciprocal, root, inverseRoot}
+use Rattle.kinds.specs.declared.Op.{Op}
+use Rattle.kinds.specs.declared.Op.the-variants.{Reciprocal, Root, InverseRoot}
 use Rattle.ieee.specs.Rounded.{side}
 use Rattle.ieee.proofs.Neighbours.{side-rising}
 use Rattle.significand.specs.Distance.{Near, Under, Over, distanceOf}
@@ -24,37 +25,37 @@ startOf op g = (g - distanceOf op) / strideOf op
 
 -- in finer steps the side is spread
 spread : (op : Op) (y q : ℕ) → side op y (strideOf op * q) ≡ spreadOf op * side op y q
-spread reciprocal y q = omega arith
-spread root y q = omega arith
-spread inverseRoot y q = omega arith
+spread Reciprocal y q = omega arith
+spread Root y q = omega arith
+spread InverseRoot y q = omega arith
 
 -- the start is not above the raw answer less its distance, and with all the steps not below it and its distance
 start-low : (op : Op) (g : ℕ) → strideOf op * startOf op g ≤ g - distanceOf op
 start-low op g = mul-div-le (g - distanceOf op) (strideOf op)
 
 start-high : (op : Op) (g : ℕ) → g + distanceOf op ≤ strideOf op * (startOf op g + suc (stepsOf op))
-start-high reciprocal g = omega arith
-start-high root g = omega arith
-start-high inverseRoot g = omega arith
+start-high Reciprocal g = omega arith
+start-high Root g = omega arith
+start-high InverseRoot g = omega arith
 
 -- a number below or above the exact result, in the raw unit's steps, is so by its side
 under-side : (op : Op) (y p v : ℕ) → p ≤ 1 → Under op 7 23 y p v → side op y v < spreadOf op * targetOf op y p
-under-side reciprocal y p v h u = omega arith
-under-side root y zero v h u = omega arith
-under-side root y (suc zero) v h u = omega arith
-under-side root y (suc (suc p)) v h u = absurd (omega arith)
-under-side inverseRoot y zero v h u = omega arith
-under-side inverseRoot y (suc zero) v h u = omega arith
-under-side inverseRoot y (suc (suc p)) v h u = absurd (omega arith)
+under-side Reciprocal y p v h u = omega arith
+under-side Root y zero v h u = omega arith
+under-side Root y (suc zero) v h u = omega arith
+under-side Root y (suc (suc p)) v h u = absurd (omega arith)
+under-side InverseRoot y zero v h u = omega arith
+under-side InverseRoot y (suc zero) v h u = omega arith
+under-side InverseRoot y (suc (suc p)) v h u = absurd (omega arith)
 
 over-side : (op : Op) (y p v : ℕ) → p ≤ 1 → Over op 7 23 y p v → spreadOf op * targetOf op y p < side op y v
-over-side reciprocal y p v h u = omega arith
-over-side root y zero v h u = omega arith
-over-side root y (suc zero) v h u = omega arith
-over-side root y (suc (suc p)) v h u = absurd (omega arith)
-over-side inverseRoot y zero v h u = omega arith
-over-side inverseRoot y (suc zero) v h u = omega arith
-over-side inverseRoot y (suc (suc p)) v h u = absurd (omega arith)
+over-side Reciprocal y p v h u = omega arith
+over-side Root y zero v h u = omega arith
+over-side Root y (suc zero) v h u = omega arith
+over-side Root y (suc (suc p)) v h u = absurd (omega arith)
+over-side InverseRoot y zero v h u = omega arith
+over-side InverseRoot y (suc zero) v h u = omega arith
+over-side InverseRoot y (suc (suc p)) v h u = absurd (omega arith)
 
 module _ (op : Op) (y p g : ℕ) (parity : p ≤ 1) (near : Near op 7 3 y p (distanceOf op) g) where
   -- the start is at or below the floor,
@@ -76,14 +77,14 @@ module _ (op : Op) (y p g : ℕ) (parity : p ≤ 1) (near : Near op 7 3 y p (dis
 
 -- what a step up takes from the remainder
 abbrev pub amountOf : Op → ℕ → ℕ → ℕ
-amountOf reciprocal y q = y
-amountOf root y q = 2 * q + 1
-amountOf inverseRoot y q = (2 * q + 1) * y
+amountOf Reciprocal y q = y
+amountOf Root y q = 2 * q + 1
+amountOf InverseRoot y q = (2 * q + 1) * y
 
 amount-is : (op : Op) (y q : ℕ) → side op y q + amountOf op y q ≡ side op y (q + 1)
-amount-is reciprocal y q = omega arith
-amount-is root y q = omega arith
-amount-is inverseRoot y q = omega arith
+amount-is Reciprocal y q = omega arith
+amount-is Root y q = omega arith
+amount-is InverseRoot y q = omega arith
 
 -- one step brings the floor one step nearer
 pub nearer : (op : Op) (y x n : ℕ) (a r : Partial) → Reached op y x a (suc n) → Stepped a (amountOf op y (a .quotient)) r → Reached op y x r n
@@ -126,25 +127,25 @@ quotient-small op y p q low high parity h =
     by-cases (decLt (2 ^ 25) q) (λ l. absurd (go op p parity (le-trans (side-rising op y l) h))) (λ l. omega arith)
   where
     go : (o : Op) (n : ℕ) → n ≤ 1 → side o y (suc (2 ^ 25)) ≤ targetOf o y n → ⊥
-    go reciprocal n b k = omega arith
-    go root zero b k = omega arith
-    go root (suc zero) b k = omega arith
-    go root (suc (suc n)) b k = omega arith
-    go inverseRoot zero b k = omega arith
-    go inverseRoot (suc zero) b k = omega arith
-    go inverseRoot (suc (suc n)) b k = omega arith
+    go Reciprocal n b k = omega arith
+    go Root zero b k = omega arith
+    go Root (suc zero) b k = omega arith
+    go Root (suc (suc n)) b k = omega arith
+    go InverseRoot zero b k = omega arith
+    go InverseRoot (suc zero) b k = omega arith
+    go InverseRoot (suc (suc n)) b k = omega arith
 
 pub start-small : (op : Op) (y p g : ℕ) → 8388608 ≤ y → y < 16777216 → p ≤ 1 → Near op 7 3 y p (distanceOf op) g → startOf op g ≤ 2 ^ 25
 start-small op y p g low high parity near =
     quotient-small op y p (startOf op g) low high parity (le-of-lt (started-low op y p g parity near))
 
 -- the reciprocal's three steps
-pub reciprocal-reached : (y g : ℕ) (a b r : Partial) → Near reciprocal 7 3 y 0 12 g
+pub reciprocal-reached : (y g : ℕ) (a b r : Partial) → Near Reciprocal 7 3 y 0 12 g
     → Stepped (record { quotient = (g - 12) / 8; left = 2 ^ 48 - y * ((g - 12) / 8) }) y a → Stepped a y b → Stepped b y r
-    → Reached reciprocal y (targetOf reciprocal y 0) r 0
+    → Reached Reciprocal y (targetOf Reciprocal y 0) r 0
 reciprocal-reached y g a b r near sa sb sr =
-    let first = nearer reciprocal y (2 ^ 48) 2 _ a (started reciprocal y 0 g (omega arith) near) sa in
-    nearer reciprocal y (2 ^ 48) 0 b r (nearer reciprocal y (2 ^ 48) 1 a b first sb) sr
+    let first = nearer Reciprocal y (2 ^ 48) 2 _ a (started Reciprocal y 0 g (omega arith) near) sa in
+    nearer Reciprocal y (2 ^ 48) 0 b r (nearer Reciprocal y (2 ^ 48) 1 a b first sb) sr
 
 -- the root's target fits a word
 pub root-target : (y p : ℕ) → y < 16777216 → p ≤ 1 → y * 2 ^ (25 + p) < 2 ^ 50
@@ -156,11 +157,11 @@ pub root-shifted : (y p : ℕ) → y < 16777216 → p ≤ 1 → y * 2 ^ (25 + p)
 root-shifted y p h k = mod-eq-of-lt (omega (arith, root-target y p h k))
 
 -- the root's one step
-pub root-reached : (y p g : ℕ) (r : Partial) → y < 16777216 → p ≤ 1 → Near root 7 3 y p 8 g
+pub root-reached : (y p g : ℕ) (r : Partial) → y < 16777216 → p ≤ 1 → Near Root 7 3 y p 8 g
     → Stepped (record { quotient = (g - 8) / 16; left = y * 2 ^ (25 + p) % 2 ^ 64 - (g - 8) / 16 * ((g - 8) / 16) }) (2 * ((g - 8) / 16) + 1) r
-    → Reached root y (targetOf root y p) r 0
+    → Reached Root y (targetOf Root y p) r 0
 root-reached y p g r h k near s =
-    nearer root y (targetOf root y p) 0 _ r (started root y p g k near) (rw (root-shifted y p h k) at s)
+    nearer Root y (targetOf Root y p) 0 _ r (started Root y p g k near) (rw (root-shifted y p h k) at s)
 
 -- what a number leaves of a multiple of 2^56, by its lower 56 bits, where that is below 2^56
 pub remainder-tells : (n m l : ℕ) → n + l ≡ m * 2 ^ 56 → l < 2 ^ 56 → (2 ^ 57 - n % 2 ^ 56) % 2 ^ 56 ≡ l
@@ -179,32 +180,32 @@ unfolding remainderOf
 remainder-is q y = ap (λ (n : ℕ). (2 ^ 57 - n) % 2 ^ 56) (lower-bits (q * q) y)
 
 -- three steps of the inverse root take fewer than 56 bits
-inverse-room : (q y : ℕ) → q ≤ 2 ^ 25 → y < 16777216 → side inverseRoot y (q + 3) < side inverseRoot y q + 2 ^ 56
+inverse-room : (q y : ℕ) → q ≤ 2 ^ 25 → y < 16777216 → side InverseRoot y (q + 3) < side InverseRoot y q + 2 ^ 56
 inverse-room q y h k = omega (arith, mul-le-mul h (le-of-lt k))
 
-inverse-target : (y p : ℕ) → p ≤ 1 → (m : ℕ) × (targetOf inverseRoot y p ≡ m * 2 ^ 56)
+inverse-target : (y p : ℕ) → p ≤ 1 → (m : ℕ) × (targetOf InverseRoot y p ≡ m * 2 ^ 56)
 inverse-target y zero h = (2 ^ 17, refl)
 inverse-target y (suc zero) h = (2 ^ 16, refl)
 inverse-target y (suc (suc p)) h = absurd (omega arith)
 
 -- the remainder at the start
-pub inverse-left : (y p g : ℕ) → 8388608 ≤ y → y < 16777216 → p ≤ 1 → Near inverseRoot 7 3 y p 8 g
-    → remainderOf (startOf inverseRoot g) y ≡ targetOf inverseRoot y p - side inverseRoot y (startOf inverseRoot g)
+pub inverse-left : (y p g : ℕ) → 8388608 ≤ y → y < 16777216 → p ≤ 1 → Near InverseRoot 7 3 y p 8 g
+    → remainderOf (startOf InverseRoot g) y ≡ targetOf InverseRoot y p - side InverseRoot y (startOf InverseRoot g)
 unfolding remainderOf
 inverse-left y p g low high parity near =
-    let q = startOf inverseRoot g in
+    let q = startOf InverseRoot g in
     let m = inverse-target y p parity in
-    let small = start-small inverseRoot y p g low high parity near in
-    let l = started-low inverseRoot y p g parity near in
-    let u = started-high inverseRoot y p g parity near in
-    remainder-tells (q * q * y) (m .0) (targetOf inverseRoot y p - q * q * y) (omega (arith, l, m .1)) (omega (arith, u, inverse-room q y small high))
+    let small = start-small InverseRoot y p g low high parity near in
+    let l = started-low InverseRoot y p g parity near in
+    let u = started-high InverseRoot y p g parity near in
+    remainder-tells (q * q * y) (m .0) (targetOf InverseRoot y p - q * q * y) (omega (arith, l, m .1)) (omega (arith, u, inverse-room q y small high))
 
 -- the inverse root's two steps
-pub inverse-root-reached : (y p g l : ℕ) (a r : Partial) → 8388608 ≤ y → y < 16777216 → p ≤ 1 → Near inverseRoot 7 3 y p 8 g
+pub inverse-root-reached : (y p g l : ℕ) (a r : Partial) → 8388608 ≤ y → y < 16777216 → p ≤ 1 → Near InverseRoot 7 3 y p 8 g
     → l ≡ remainderOf ((g - 8) / 8) y
     → Stepped (record { quotient = (g - 8) / 8; left = l }) ((2 * ((g - 8) / 8) + 1) * y) a → Stepped a ((2 * a .quotient + 1) * y) r
-    → Reached inverseRoot y (targetOf inverseRoot y p) r 0
+    → Reached InverseRoot y (targetOf InverseRoot y p) r 0
 inverse-root-reached y p g l a r low high parity near e sa sr =
-    let x = targetOf inverseRoot y p in
-    let first = nearer inverseRoot y x 1 _ a (started inverseRoot y p g parity near) (rw (e ∙ inverse-left y p g low high parity near) at sa) in
-    nearer inverseRoot y x 0 a r first sr
+    let x = targetOf InverseRoot y p in
+    let first = nearer InverseRoot y x 1 _ a (started InverseRoot y p g parity near) (rw (e ∙ inverse-left y p g low high parity near) at sa) in
+    nearer InverseRoot y x 0 a r first sr

@@ -3,33 +3,34 @@ use mathlib.Core.Path.{_≡_}
 use mathlib.Core.Bool.{cond}
 use Prim.Native.Nat.{ℕ, suc, _+_, _*_, _-_, _%_, _^_, _≤_, _<_}
 use lib.Dec.{leb}
-use Rattle.kinds.specs.Operation.{Op, reciprocal, root, inverseRoot}
+use Rattle.kinds.specs.declared.Op.{Op}
+use Rattle.kinds.specs.declared.Op.the-variants.{Reciprocal, Root, InverseRoot}
 use Rattle.ieee.specs.Rounded.{side}
 use Rattle.floors.specs.declared.floor.Partial.{Partial}
 
 -- The floor is the greatest q with y·q ≤ 2^48, q² ≤ y·2^(25 + p), or q²·y ≤ 2^(73 − p): `side` at most the target
 abbrev pub targetOf : Op → ℕ → ℕ → ℕ
-targetOf reciprocal y p = 2 ^ 48
-targetOf root y p = y * 2 ^ (25 + p)
-targetOf inverseRoot y p = 2 ^ (73 - p)
+targetOf Reciprocal y p = 2 ^ 48
+targetOf Root y p = y * 2 ^ (25 + p)
+targetOf InverseRoot y p = 2 ^ (73 - p)
 
 -- a raw answer g counts the result in finer steps: so many to one of the floor's
 abbrev pub strideOf : Op → ℕ
-strideOf reciprocal = 8
-strideOf root = 16
-strideOf inverseRoot = 8
+strideOf Reciprocal = 8
+strideOf Root = 16
+strideOf InverseRoot = 8
 
 -- so that the target is taken so often where g stands for q
 abbrev pub spreadOf : Op → ℕ
-spreadOf reciprocal = 8
-spreadOf root = 256
-spreadOf inverseRoot = 64
+spreadOf Reciprocal = 8
+spreadOf Root = 256
+spreadOf InverseRoot = 64
 
 -- how many steps lead from the start to the floor at most
 abbrev pub stepsOf : Op → ℕ
-stepsOf reciprocal = 3
-stepsOf root = 1
-stepsOf inverseRoot = 2
+stepsOf Reciprocal = 3
+stepsOf Root = 1
+stepsOf InverseRoot = 2
 
 -- a number at or below the floor, with what it leaves of the target x; n steps or fewer lead to the floor
 pub record Reached (op : Op) (y x : ℕ) (r : Partial) (n : ℕ) : Type 0 where

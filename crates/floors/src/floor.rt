@@ -1,7 +1,7 @@
 // Floors with one guard bit: from a raw answer, which starts at or below the floor, step by step up to it. A remainder decides each step.
 ghost use mathlib.Core.Path.{_≡_};
 ghost use Prim.Native.Nat.{_^_, _≤_, _<_};
-ghost use Rattle.kinds.specs.Operation.{reciprocal as Op·reciprocal, root as Op·root, inverseRoot as Op·inverseRoot};
+ghost use Rattle.kinds.specs.declared.Op.the-variants.{Reciprocal, Root, InverseRoot};
 ghost use Rattle.significand.specs.Distance.{Near};
 ghost use Rattle.floors.specs.Floor.{Reached, Stepped, targetOf, remainderOf};
 
@@ -27,8 +27,8 @@ fn step(x: Partial, amount: u64) -> Partial
 
 // 2^48 / y: three steps are enough.
 pub fn reciprocal(y: u64, g: u64) -> Partial
-    requires { ⌜ (8388608 ≤ y) × (y < 16777216) × (g < 2 ^ 32) × Near Op·reciprocal 7 3 y 0 12 g ⌝ }
-    ensures { λ r. ⌜ Reached Op·reciprocal y (targetOf Op·reciprocal y 0) r 0 ⌝ }
+    requires { ⌜ (8388608 ≤ y) × (y < 16777216) × (g < 2 ^ 32) × Near Reciprocal 7 3 y 0 12 g ⌝ }
+    ensures { λ r. ⌜ Reached Reciprocal y (targetOf Reciprocal y 0) r 0 ⌝ }
 {
     let q = (g - 12) / 8;
     let first = Partial {
@@ -40,8 +40,8 @@ pub fn reciprocal(y: u64, g: u64) -> Partial
 
 // The root of y × 2^(25 + p): one step is enough.
 pub fn root(y: u64, p: u64, g: u64) -> Partial
-    requires { ⌜ (8388608 ≤ y) × (y < 16777216) × (p ≤ 1) × (g < 2 ^ 32) × Near Op·root 7 3 y p 8 g ⌝ }
-    ensures { λ r. ⌜ Reached Op·root y (targetOf Op·root y p) r 0 ⌝ }
+    requires { ⌜ (8388608 ≤ y) × (y < 16777216) × (p ≤ 1) × (g < 2 ^ 32) × Near Root 7 3 y p 8 g ⌝ }
+    ensures { λ r. ⌜ Reached Root y (targetOf Root y p) r 0 ⌝ }
 {
     let q = (g - 8) / 16;
     let first = Partial {
@@ -53,8 +53,8 @@ pub fn root(y: u64, p: u64, g: u64) -> Partial
 
 // The root of 2^(73 - p) / y: two steps are enough.
 pub fn inverse_root(y: u64, p: u64, g: u64) -> Partial
-    requires { ⌜ (8388608 ≤ y) × (y < 16777216) × (p ≤ 1) × (g < 2 ^ 32) × Near Op·inverseRoot 7 3 y p 8 g ⌝ }
-    ensures { λ r. ⌜ Reached Op·inverseRoot y (targetOf Op·inverseRoot y p) r 0 ⌝ }
+    requires { ⌜ (8388608 ≤ y) × (y < 16777216) × (p ≤ 1) × (g < 2 ^ 32) × Near InverseRoot 7 3 y p 8 g ⌝ }
+    ensures { λ r. ⌜ Reached InverseRoot y (targetOf InverseRoot y p) r 0 ⌝ }
 {
     let q = (g - 8) / 8;
     let first = Partial {

@@ -7,8 +7,10 @@ use Prim.Native.Nat.{ℕ, suc, _<_}
 use native.Mathlib.Decide.{ℕ-discrete}
 use native.Mathlib.Omega.{arith}
 use lib.Dec.{T, lit<, lit≤}
-use Rattle.kinds.specs.Operation.{Op, isOperation, opOf}
-use Rattle.kinds.specs.Rounding.{Mode, up, down}
+use Rattle.kinds.specs.declared.Op.{Op}
+use Rattle.kinds.specs.Operation.{isOperation, opOf}
+use Rattle.kinds.specs.declared.Mode.{Mode}
+use Rattle.kinds.specs.declared.Mode.the-variants.{Up, Down}
 use Rattle.kinds.proofs.Directed.{rounded-exact, rounded-down, rounded-up}
 use Rattle.ieee.specs.Format.{Format, binary32, unitOf, infinity, magnitudeOf}
 use Rattle.ieee.specs.Rounded.{side, limit, lowerOf, placeAt, roundedOf}
@@ -32,11 +34,11 @@ module _ (f : Format) (op : Op) (x : ℕ) where
   rounded-reached mode e = rounded-exact _ _ _ _ _ _ mode e
 
   -- and elsewhere down gives it and up the next
-  lower : (Reached → ⊥) → roundedOf f op down false x ≡ lowerOf f op x
+  lower : (Reached → ⊥) → roundedOf f op Down false x ≡ lowerOf f op x
   unfolding roundedOf placeAt
   lower h = rounded-down _ _ _ _ _ _ h
 
-  upper : (Reached → ⊥) → roundedOf f op up false x ≡ suc (lowerOf f op x)
+  upper : (Reached → ⊥) → roundedOf f op Up false x ≡ suc (lowerOf f op x)
   unfolding roundedOf placeAt
   upper h = rounded-up _ _ _ _ _ _ h
 
@@ -46,16 +48,16 @@ module _ (f : Format) (r : Regular f) (op : Op) (t : ℕ) (positive : 0 < t) (fi
   bits mode = ap (λ (a : Answer). a .bits) (finite-answer f op mode t positive finite)
 
   -- the bracket over the format
-  pub format-bracket : Bracket (Agree f op (magnitudeOf f t)) (answerOf f op down t .bits) (answerOf f op up t .bits)
+  pub format-bracket : Bracket (Agree f op (magnitudeOf f t)) (answerOf f op Down t .bits) (answerOf f op Up t .bits)
   format-bracket =
       let x = magnitudeOf f t in
       by-cases (ℕ-discrete (side op x (magnitudeOf f (lowerOf f op x))) (limit (unitOf f) op x))
       (λ e.
-      let same : answerOf f op down t .bits ≡ answerOf f op up t .bits = cc (bits down, bits up, rounded-reached f op x down e, rounded-reached f op x up e) in
+      let same : answerOf f op Down t .bits ≡ answerOf f op Up t .bits = cc (bits Down, bits Up, rounded-reached f op x Down e, rounded-reached f op x Up e) in
       let agree = reached-agrees f r t positive finite op e in
       record { equal = (λ s. agree, λ a. same); next = λ h. absurd (h agree) })
       (λ h.
-      let next : answerOf f op up t .bits ≡ suc (answerOf f op down t .bits) = cc (bits down, bits up, lower f op x h, upper f op x h) in
+      let next : answerOf f op Up t .bits ≡ suc (answerOf f op Down t .bits) = cc (bits Down, bits Up, lower f op x h, upper f op x h) in
       record {
         equal = (λ s. absurd (omega arith), λ a. absurd (h (agree-reached f r t positive finite op a)));
         next = λ s. next;
@@ -67,7 +69,7 @@ binary32-regular = record { exponent = lit< tt; fraction = lit< tt; wide = lit�
 
 -- the bracket of the binary32 answers
 pub bracket : (op : Op) (t : ℕ) → 0 < t → t < infinity binary32
-    → Bracket (Agree binary32 op (magnitudeOf binary32 t)) (answerOf binary32 op down t .bits) (answerOf binary32 op up t .bits)
+    → Bracket (Agree binary32 op (magnitudeOf binary32 t)) (answerOf binary32 op Down t .bits) (answerOf binary32 op Up t .bits)
 bracket op t = format-bracket binary32 binary32-regular op t
 
 -- and of two calls, rounding 2 down and rounding 1 up, whatever status each is given

@@ -7,7 +7,8 @@ use native.Mathlib.Decide.{decLt}
 use native.Mathlib.Omega.{arith}
 use lib.IntN.{ℤ, pos, negsuc, natAbs}
 use lib.Pow.{pow-pos, pow-add, pow-mono}
-use Rattle.kinds.specs.Operation.{Op, reciprocal, root, inverseRoot}
+use Rattle.kinds.specs.declared.Op.{Op}
+use Rattle.kinds.specs.declared.Op.the-variants.{Reciprocal, Root, InverseRoot}
 use Rattle.numbers.proofs.Powers.{powers-of-two, power-below, power-same, power-sum, power-of-four}
 use Rattle.numbers.proofs.Squares.{PerfectSquare, square-part, square-below, square-of-four}
 use Rattle.ieee.specs.Format.{Format, biasOf, unitOf, infinity, magnitudeOf}
@@ -91,29 +92,29 @@ record Operand (f : Format) (u b x : ℕ) : Type 0 where
 
 module _ {f : Format} {u b x : ℕ} (o : Operand f u b x) where
   -- the reciprocal: two factors of a power of two are powers of two
-  reciprocal-agrees : Exact f u reciprocal x → PowerOfTwo u b x
+  reciprocal-agrees : Exact f u Reciprocal x → PowerOfTwo u b x
   reciprocal-agrees a =
       let p = powers-of-two (2 * u) x (magnitudeOf f (a .result)) (a .is) in
       let left = power-below (p .left) (u + suc b) (rw (p .left-is) at (o .below)) in
       let right = power-below (p .right) (u + suc b) (rw (o .sizes .top, p .right-is) at (rising f (a .finite))) in
       power-value u b x (p .left) (p .left-is) (omega arith) (omega (arith, p .sum))
 
-  reciprocal-exact : PowerOfTwo u b x → Exact f u reciprocal x
+  reciprocal-exact : PowerOfTwo u b x → Exact f u Reciprocal x
   reciprocal-exact a = go (a .exponent) (a .within) (a .is)
     where
-      go : (e : ℤ) → natAbs e ≤ b → TimesPower 2 e x (2 ^ u) → Exact f u reciprocal x
+      go : (e : ℤ) → natAbs e ≤ b → TimesPower 2 e x (2 ^ u) → Exact f u Reciprocal x
       go (pos n) w e =
-          exact-at f u reciprocal x (2 ^ (u - n)) (power-number (o .sizes) (u - n) (omega arith))
+          exact-at f u Reciprocal x (2 ^ (u - n)) (power-number (o .sizes) (u - n) (omega arith))
           (omega (arith, ap (λ (y : ℕ). y * 2 ^ (u - n)) e, ap (λ (y : ℕ). 2 ^ u * y) (power-sum n (u - n) u (omega (arith, o .sizes))), power-sum u u (2 * u) (omega arith)))
       go (negsuc n) w e =
-          exact-at f u reciprocal x (2 ^ (u + suc n)) (power-number (o .sizes) (u + suc n) (omega arith))
+          exact-at f u Reciprocal x (2 ^ (u + suc n)) (power-number (o .sizes) (u + suc n) (omega arith))
           (omega (arith, ap (λ (y : ℕ). x * y) (pow-add 2 u (suc n)), ap (λ (y : ℕ). y * 2 ^ u) e, power-sum u u (2 * u) (omega arith)))
 
   -- the root: x × 2^u is a square, whose root is short as x is
-  root-agrees : Exact f u root x → SquareTimesPowerOfFour u x
+  root-agrees : Exact f u Root x → SquareTimesPowerOfFour u x
   root-agrees a = square-value u x (magnitudeOf f (a .result)) (a .is)
 
-  root-exact : SquareTimesPowerOfFour u x → Exact f u root x
+  root-exact : SquareTimesPowerOfFour u x → Exact f u Root x
   root-exact a =
       let h = o .short in
       let q = value-square u x (a .base) (a .exponent) (a .is) in
@@ -125,10 +126,10 @@ module _ {f : Format} {u b x : ℕ} (o : Operand f u b x) where
       rw (o .sizes .top)
       (square-below v (2 ^ (u + suc b))
       (omega (arith, q .is, mul-lt-mul-of-pos-right (o .below) (pow-pos u), mul-le-mul-left (2 ^ (u + suc b)) (pow-mono {i = u} {j = u + suc b} (omega arith))))) in
-      exact-at f u root x v (number-short f v r small) (q .is)
+      exact-at f u Root x v (number-short f v r small) (q .is)
 
   -- the inverse root: three factors of a power of two, two of them equal
-  inverse-root-agrees : Exact f u inverseRoot x → PowerOfFour u x
+  inverse-root-agrees : Exact f u InverseRoot x → PowerOfFour u x
   inverse-root-agrees a =
       let v = magnitudeOf f (a .result) in
       let p = powers-of-two (3 * u) v (v * x) (omega (arith, a .is)) in
@@ -136,14 +137,14 @@ module _ {f : Format} {u b x : ℕ} (o : Operand f u b x) where
       let same = power-same (p .left) (q .left) (cc) in
       four-value u x (p .left) (q .right) (q .right-is) (omega (arith, p .sum, q .sum))
 
-  inverse-root-exact : PowerOfFour u x → Exact f u inverseRoot x
+  inverse-root-exact : PowerOfFour u x → Exact f u InverseRoot x
   inverse-root-exact a = go (a .exponent) (a .is)
     where
-      go : (e : ℤ) → TimesPower 4 e x (2 ^ u) → Exact f u inverseRoot x
+      go : (e : ℤ) → TimesPower 4 e x (2 ^ u) → Exact f u InverseRoot x
       go (pos n) e =
           let x-is : x ≡ 2 ^ (u + (n + n)) = e ∙ power-times-four u n (u + (n + n)) refl in
           let within = power-below (u + (n + n)) (u + suc b) (rw x-is at (o .below)) in
-          exact-at f u inverseRoot x (2 ^ (u - n)) (power-number (o .sizes) (u - n) (omega arith))
+          exact-at f u InverseRoot x (2 ^ (u - n)) (power-number (o .sizes) (u - n) (omega arith))
           (ap₂ (λ (y z : ℕ). y * z) (power-sum (u - n) (u - n) (u - n + (u - n)) refl) x-is
           ∙ power-sum (u - n + (u - n)) (u + (n + n)) (3 * u) (omega (arith, o .sizes)))
       go (negsuc n) e =
@@ -152,7 +153,7 @@ module _ {f : Format} {u b x : ℕ} (o : Operand f u b x) where
           (omega (arith, power-of-four k, power-sum k k (k + k) refl, pow-succ' 2 u, pow-pos u, mul-le-mul-right (4 ^ k) (o .positive), e)) in
           let square : 2 ^ (u + k) * 2 ^ (u + k) ≡ 2 ^ (u + u) * 4 ^ k =
           power-sum (u + k) (u + k) (u + u + (k + k)) (omega arith) ∙ sym (power-times-four (u + u) k (u + u + (k + k)) refl) in
-          exact-at f u inverseRoot x (2 ^ (u + k)) (power-number (o .sizes) (u + k) (omega (arith, o .sizes)))
+          exact-at f u InverseRoot x (2 ^ (u + k)) (power-number (o .sizes) (u + k) (omega (arith, o .sizes)))
           (omega (arith, ap (λ (y : ℕ). y * x) square, ap (λ (y : ℕ). 2 ^ (u + u) * y) e, power-sum (u + u) u (3 * u) (omega arith)))
 
 -- where the exact result is a number, the lower neighbour is that number
@@ -179,14 +180,14 @@ module _ (f : Format) (r : Regular f) (t : ℕ) (positive : 0 < t) (finite : t <
 
   -- all three operations in one
   exact-agrees : (op : Op) → Exact f (unitOf f) op (magnitudeOf f t) → Agree f op (magnitudeOf f t)
-  exact-agrees reciprocal a = reciprocal-agrees operand a
-  exact-agrees root a = root-agrees operand a
-  exact-agrees inverseRoot a = inverse-root-agrees operand a
+  exact-agrees Reciprocal a = reciprocal-agrees operand a
+  exact-agrees Root a = root-agrees operand a
+  exact-agrees InverseRoot a = inverse-root-agrees operand a
 
   agree-exact : (op : Op) → Agree f op (magnitudeOf f t) → Exact f (unitOf f) op (magnitudeOf f t)
-  agree-exact reciprocal a = reciprocal-exact operand a
-  agree-exact root a = root-exact operand a
-  agree-exact inverseRoot a = inverse-root-exact operand a
+  agree-exact Reciprocal a = reciprocal-exact operand a
+  agree-exact Root a = root-exact operand a
+  agree-exact InverseRoot a = inverse-root-exact operand a
 
   -- the side reaches the limit at the lower neighbour exactly where the operand's value agrees
   pub reached-agrees : (op : Op)

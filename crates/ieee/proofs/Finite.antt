@@ -5,8 +5,8 @@ use Prim.Native.Nat.{ℕ, _<_}
 use native.Mathlib.Nat.{div-eq-of-lt, mod-eq-of-lt, zero-mul, zero-add}
 use native.Mathlib.Omega.{arith}
 use borrow.Author.Tests.{le-ltb, ne-eqb}
-use Rattle.kinds.specs.Operation.{Op}
-use Rattle.kinds.specs.Rounding.{Mode}
+use Rattle.kinds.specs.declared.Op.{Op}
+use Rattle.kinds.specs.declared.Mode.{Mode}
 use Rattle.ieee.specs.Format.{Format, signBit, infinity, magnitudeOf}
 use Rattle.ieee.specs.Rounded.{roundedOf, flagsOf}
 use Rattle.ieee.specs.Answer.{answer, answerOf}

@@ -6,8 +6,11 @@ use native.Mathlib.Nat.{mod-lt}
 use native.Mathlib.Omega.{arith}
 use lib.Dec.{lit<, ltb, eqb}
 use lib.Bits.{or-lt}
-use Rattle.kinds.specs.Operation.{Op, reciprocal, root, inverseRoot, isReciprocal, opOf}
-use Rattle.kinds.specs.Rounding.{Mode, modeOf}
+use Rattle.kinds.specs.declared.Op.{Op}
+use Rattle.kinds.specs.declared.Op.the-variants.{Reciprocal, Root, InverseRoot}
+use Rattle.kinds.specs.Operation.{isReciprocal, opOf}
+use Rattle.kinds.specs.declared.Mode.{Mode}
+use Rattle.kinds.specs.Rounding.{modeOf}
 use Rattle.kinds.specs.Flag.{invalid, overflow, underflow, inexact}
 use Rattle.numbers.proofs.Bits.{bit, bit-or, or-keeps}
 use Rattle.ieee.specs.Format.{Format, binary32, infinity, quietNaN, magnitudeOf}
@@ -34,14 +37,14 @@ few-nan : (f : Format) (t : ℕ) → Few (toNaN f t)
 few-nan f t = record { small = omega (arith, flag-most (ltb (t % 2 ^ f .fractionBits) (2 ^ (f .fractionBits - 1))) invalid) }
 
 few-zero : (f : Format) (op : Op) (s : ℕ) → Few (toZero f op s)
-few-zero f reciprocal s = record { small = lit< tt }
-few-zero f root s = record { small = lit< tt }
-few-zero f inverseRoot s = record { small = lit< tt }
+few-zero f Reciprocal s = record { small = lit< tt }
+few-zero f Root s = record { small = lit< tt }
+few-zero f InverseRoot s = record { small = lit< tt }
 
 few-infinity : (f : Format) (op : Op) (s : ℕ) → Few (toInfinity f op s)
-few-infinity f reciprocal s = record { small = lit< tt }
-few-infinity f root s = record { small = lit< tt }
-few-infinity f inverseRoot s = record { small = lit< tt }
+few-infinity f Reciprocal s = record { small = lit< tt }
+few-infinity f Root s = record { small = lit< tt }
+few-infinity f InverseRoot s = record { small = lit< tt }
 
 few-finite : (f : Format) (op : Op) (mode : Mode) (s t : ℕ) → Few (toFinite f op mode s t)
 unfolding flagsOf

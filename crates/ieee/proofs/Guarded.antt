@@ -9,7 +9,8 @@ use native.Mathlib.Omega.{arith}
 use borrow.Author.Tests.{le-leb, lt-leb, lt-ltb, le-ltb, eq-eqb, ne-eqb, eqb-true, eqb-false, not-true, not-false}
 use lib.Dec.{eqb}
 use lib.Pow.{pow-pos, shr-le}
-use Rattle.kinds.specs.Operation.{Op, reciprocal, root, inverseRoot}
+use Rattle.kinds.specs.declared.Op.{Op}
+use Rattle.kinds.specs.declared.Op.the-variants.{Reciprocal, Root, InverseRoot}
 use Rattle.kinds.specs.Rounding.{exact, below, half, above, placeBy}
 use Rattle.kinds.specs.Guard.{placeOf}
 use Rattle.numbers.proofs.Powers.{power-of-four}
@@ -39,19 +40,19 @@ module _ (low limit middle doubled : ℕ) where
 
 -- a power of two times the number takes the side as often as the limit is taken
 lifted : (op : Op) (x w a b : ℕ) → twice op ^ w * side op x (a * b) ≡ side op x (a * 2 ^ w * b)
-lifted reciprocal x w a b = omega arith
-lifted root x w a b = rw (power-of-four w) (omega arith)
-lifted inverseRoot x w a b = rw (power-of-four w) (omega arith)
+lifted Reciprocal x w a b = omega arith
+lifted Root x w a b = rw (power-of-four w) (omega arith)
+lifted InverseRoot x w a b = rw (power-of-four w) (omega arith)
 
 side-double : (op : Op) (x v : ℕ) → side op x (2 * v) ≡ twice op * side op x v
-side-double reciprocal x v = omega arith
-side-double root x v = omega arith
-side-double inverseRoot x v = omega arith
+side-double Reciprocal x v = omega arith
+side-double Root x v = omega arith
+side-double InverseRoot x v = omega arith
 
 taken-pos : (op : Op) (w : ℕ) → 0 < twice op ^ w
-taken-pos reciprocal w = pow-pos w
-taken-pos root w = one-le-pow w 4 (omega arith)
-taken-pos inverseRoot w = one-le-pow w 4 (omega arith)
+taken-pos Reciprocal w = pow-pos w
+taken-pos Root w = one-le-pow w 4 (omega arith)
+taken-pos InverseRoot w = one-le-pow w 4 (omega arith)
 
 module _ (f : Format) (op : Op) (x q : ℕ) (more : Bool) (k : ℕ) (pos : 0 < x) (g : Guarded f op x q more k) where
   -- a number of the last places, against the limit of the exact result times 2^(3 − k − w)

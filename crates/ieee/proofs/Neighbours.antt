@@ -10,7 +10,8 @@ use native.Mathlib.Omega.{arith}
 use mir.Facts.{and-yes, yes-and}
 use lib.Dec.{T, ltb, ltb→lt, lt→ltb, leb→le, le→leb}
 use lib.Pow.{pow-pos, pow-add, pow-mono, high, low, split, ones-lt}
-use Rattle.kinds.specs.Operation.{Op, reciprocal, root, inverseRoot}
+use Rattle.kinds.specs.declared.Op.{Op}
+use Rattle.kinds.specs.declared.Op.the-variants.{Reciprocal, Root, InverseRoot}
 use Rattle.numbers.proofs.Greatest.{Antitone, greatest-found, greatest-is}
 use Rattle.numbers.proofs.Squares.{square-rising}
 use Rattle.ieee.specs.Format.{Format, unitOf, signBit, infinity, scaled, magnitudeOf}
@@ -102,19 +103,19 @@ module _ (f : Format) where
 
 -- the side rises with the number
 pub side-rising : (op : Op) (x : ℕ) {v w : ℕ} → v ≤ w → side op x v ≤ side op x w
-side-rising reciprocal x h = mul-le-mul-left x h
-side-rising root x h = mul-le-mul h h
-side-rising inverseRoot x h = mul-le-mul-right x (mul-le-mul h h)
+side-rising Reciprocal x h = mul-le-mul-left x h
+side-rising Root x h = mul-le-mul h h
+side-rising InverseRoot x h = mul-le-mul-right x (mul-le-mul h h)
 
 pub side-rising< : (op : Op) (x : ℕ) {v w : ℕ} → 0 < x → v < w → side op x v < side op x w
-side-rising< reciprocal x p h = mul-lt-mul-of-pos-left h p
-side-rising< root x p h = square-rising h
-side-rising< inverseRoot x p h = mul-lt-mul-of-pos-right (square-rising h) p
+side-rising< Reciprocal x p h = mul-lt-mul-of-pos-left h p
+side-rising< Root x p h = square-rising h
+side-rising< InverseRoot x p h = mul-lt-mul-of-pos-right (square-rising h) p
 
 pub side-zero : (op : Op) (x : ℕ) → side op x 0 ≡ 0
-side-zero reciprocal x = omega arith
-side-zero root x = refl
-side-zero inverseRoot x = omega arith
+side-zero Reciprocal x = omega arith
+side-zero Root x = refl
+side-zero InverseRoot x = omega arith
 
 module _ (f : Format) (op : Op) (x : ℕ) where
   -- a magnitude fits where its side is at most the limit

@@ -8,8 +8,9 @@ use native.Mathlib.Decide.{decLt}
 use native.Mathlib.Omega.{arith}
 use borrow.Author.Tests.{le-leb, lt-leb, lt-ltb, le-ltb}
 use lib.Dec.{ltb, eqb}
-use Rattle.kinds.specs.Operation.{Op}
-use Rattle.kinds.specs.Rounding.{Mode, Place, exact, below, half, above, away, placeBy, roundedBy}
+use Rattle.kinds.specs.declared.Op.{Op}
+use Rattle.kinds.specs.declared.Mode.{Mode}
+use Rattle.kinds.specs.Rounding.{Place, exact, below, half, above, away, placeBy, roundedBy}
 use Rattle.kinds.specs.Guard.{placeOf}
 use Rattle.kinds.specs.Flag.{overflow, underflow, inexact}
 use Rattle.ieee.specs.Format.{Format, unitOf, infinity, leastNormal, magnitudeOf}

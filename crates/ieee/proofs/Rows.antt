@@ -1,8 +1,11 @@
 -- The rows of document 01's table on patterns. Assumes nothing.
 use mathlib.Core.Path.{_≡_, refl}
 use Prim.Native.Nat.{ℕ, _+_}
-use Rattle.kinds.specs.Operation.{Op, reciprocal, root, inverseRoot}
-use Rattle.kinds.specs.Rounding.{Mode, nearest, up, down, towardZero, away, placeBy, roundedBy}
+use Rattle.kinds.specs.declared.Op.{Op}
+use Rattle.kinds.specs.declared.Op.the-variants.{Reciprocal, Root, InverseRoot}
+use Rattle.kinds.specs.declared.Mode.{Mode}
+use Rattle.kinds.specs.declared.Mode.the-variants.{Nearest, Up, Down, TowardZero}
+use Rattle.kinds.specs.Rounding.{away, placeBy, roundedBy}
 use Rattle.kinds.specs.Flag.{noFlag, overflow, inexact}
 use Rattle.numbers.specs.Greatest.{greatest, greatestFrom}
 use Rattle.ieee.specs.Format.{binary32, magnitudeOf}
@@ -11,26 +14,26 @@ use Rattle.ieee.specs.Answer.{answer, answerOf}
 
 -- the lower and the upper answer to a pattern, both with the flags given
 pub record Pair (op : Op) (operand lower upper flags : ℕ) : Type 0 where
-  pub down-is : answerOf binary32 op down operand ≡ answer lower flags
-  pub up-is : answerOf binary32 op up operand ≡ answer upper flags
+  pub down-is : answerOf binary32 op Down operand ≡ answer lower flags
+  pub up-is : answerOf binary32 op Up operand ≡ answer upper flags
 
 -- one answer with no flag in every rounding
 pub record Same (op : Op) (operand result : ℕ) : Type 0 where
   pub each : (mode : Mode) → answerOf binary32 op mode operand ≡ answer result noFlag
 
 pub record PatternRows : Type 0 where
-  pub third : Pair reciprocal 0x40400000 0x3EAAAAAA 0x3EAAAAAB inexact
-  pub minus-third : Pair reciprocal 0xC0400000 0xBEAAAAAB 0xBEAAAAAA inexact
-  pub root-of-two : Pair root 0x40000000 0x3FB504F3 0x3FB504F4 inexact
-  pub inverse-root-of-four : Same inverseRoot 0x40800000 0x3F000000
-  pub overflowing : Pair reciprocal 0x00200000 0x7F7FFFFF 0x7F800000 (overflow + inexact)
-  pub subnormal : Same reciprocal 0x7F000000 0x00400000
+  pub third : Pair Reciprocal 0x40400000 0x3EAAAAAA 0x3EAAAAAB inexact
+  pub minus-third : Pair Reciprocal 0xC0400000 0xBEAAAAAB 0xBEAAAAAA inexact
+  pub root-of-two : Pair Root 0x40000000 0x3FB504F3 0x3FB504F4 inexact
+  pub inverse-root-of-four : Same InverseRoot 0x40800000 0x3F000000
+  pub overflowing : Pair Reciprocal 0x00200000 0x7F7FFFFF 0x7F800000 (overflow + inexact)
+  pub subnormal : Same Reciprocal 0x7F000000 0x00400000
 
-each-mode : (P : Mode → Type 0) → P nearest → P up → P down → P towardZero → (mode : Mode) → P mode
-each-mode P a b c d nearest = a
-each-mode P a b c d up = b
-each-mode P a b c d down = c
-each-mode P a b c d towardZero = d
+each-mode : (P : Mode → Type 0) → P Nearest → P Up → P Down → P TowardZero → (mode : Mode) → P mode
+each-mode P a b c d Nearest = a
+each-mode P a b c d Up = b
+each-mode P a b c d Down = c
+each-mode P a b c d TowardZero = d
 
 pub pattern-rows : PatternRows
 unfolding answerOf roundedOf lowerOf placeAt isInexact isOverflow isUnderflow flagsOf fits magnitudeOf away placeBy roundedBy greatest greatestFrom
@@ -40,7 +43,7 @@ pattern-rows =
       minus-third = record { down-is = refl; up-is = refl };
       root-of-two = record { down-is = refl; up-is = refl };
       inverse-root-of-four =
-          record { each = each-mode (λ (m : Mode). answerOf binary32 inverseRoot m 0x40800000 ≡ answer 0x3F000000 noFlag) refl refl refl refl };
+          record { each = each-mode (λ (m : Mode). answerOf binary32 InverseRoot m 0x40800000 ≡ answer 0x3F000000 noFlag) refl refl refl refl };
       overflowing = record { down-is = refl; up-is = refl };
-      subnormal = record { each = each-mode (λ (m : Mode). answerOf binary32 reciprocal m 0x7F000000 ≡ answer 0x00400000 noFlag) refl refl refl refl };
+      subnormal = record { each = each-mode (λ (m : Mode). answerOf binary32 Reciprocal m 0x7F000000 ≡ answer 0x00400000 noFlag) refl refl refl refl };
     }

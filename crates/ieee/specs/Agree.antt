@@ -2,7 +2,8 @@
 use mathlib.Core.Path.{_≡_}
 use Prim.Native.Nat.{ℕ, suc, _*_, _^_, _≤_}
 use lib.IntN.{ℤ, pos, negsuc, natAbs}
-use Rattle.kinds.specs.Operation.{Op, reciprocal, root, inverseRoot}
+use Rattle.kinds.specs.declared.Op.{Op}
+use Rattle.kinds.specs.declared.Op.the-variants.{Reciprocal, Root, InverseRoot}
 use Rattle.ieee.specs.Format.{Format, biasOf, unitOf}
 
 -- x is y × b^e, the exponent being any whole number
@@ -29,6 +30,6 @@ pub record PowerOfFour (u x : ℕ) : Type 0 where
 
 -- the condition of each operation on the magnitude of its operand
 abbrev pub Agree : Format → Op → ℕ → Type 0
-Agree f reciprocal x = PowerOfTwo (unitOf f) (biasOf f) x
-Agree f root x = SquareTimesPowerOfFour (unitOf f) x
-Agree f inverseRoot x = PowerOfFour (unitOf f) x
+Agree f Reciprocal x = PowerOfTwo (unitOf f) (biasOf f) x
+Agree f Root x = SquareTimesPowerOfFour (unitOf f) x
+Agree f InverseRoot x = PowerOfFour (unitOf f) x

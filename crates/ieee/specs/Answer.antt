@@ -2,8 +2,10 @@
 use Prim.Native.Nat.{ℕ, _+_, _*_, _-_, _/_, _%_, _^_}
 use mathlib.Core.Bool.{cond, not, _&&_}
 use lib.Dec.{ltb, eqb}
-use Rattle.kinds.specs.Operation.{Op, reciprocal, root, inverseRoot, isReciprocal}
-use Rattle.kinds.specs.Rounding.{Mode}
+use Rattle.kinds.specs.declared.Op.{Op}
+use Rattle.kinds.specs.declared.Op.the-variants.{Reciprocal, Root, InverseRoot}
+use Rattle.kinds.specs.Operation.{isReciprocal}
+use Rattle.kinds.specs.declared.Mode.{Mode}
 use Rattle.kinds.specs.Flag.{noFlag, invalid, divisionByZero}
 use Rattle.ieee.specs.Format.{Format, signBit, infinity, quietNaN, magnitudeOf}
 use Rattle.ieee.specs.Rounded.{roundedOf, flagsOf}
@@ -33,15 +35,15 @@ toNaN f t = answer (quietNaN f) (cond (ltb (t % 2 ^ f .fractionBits) (2 ^ (f .fr
 
 -- zero: root gives the same zero, the others infinity of the same sign and division by zero
 abbrev pub toZero : Format → Op → ℕ → Answer
-toZero f reciprocal s = answer (signed f s (infinity f)) divisionByZero
-toZero f root s = answer (signed f s 0) noFlag
-toZero f inverseRoot s = answer (signed f s (infinity f)) divisionByZero
+toZero f Reciprocal s = answer (signed f s (infinity f)) divisionByZero
+toZero f Root s = answer (signed f s 0) noFlag
+toZero f InverseRoot s = answer (signed f s (infinity f)) divisionByZero
 
 -- infinity: reciprocal gives a zero of the same sign; plus infinity gives plus infinity (root) or plus zero (inverse root)
 abbrev pub toInfinity : Format → Op → ℕ → Answer
-toInfinity f reciprocal s = answer (signed f s 0) noFlag
-toInfinity f root s = answer (infinity f) noFlag
-toInfinity f inverseRoot s = answer 0 noFlag
+toInfinity f Reciprocal s = answer (signed f s 0) noFlag
+toInfinity f Root s = answer (infinity f) noFlag
+toInfinity f InverseRoot s = answer 0 noFlag
 
 -- a finite operand that is not zero: the rounded result of its magnitude, with its sign
 abbrev pub toFinite : Format → Op → Mode → ℕ → ℕ → Answer

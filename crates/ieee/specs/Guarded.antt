@@ -3,7 +3,7 @@ use mathlib.Core.Path.{_≡_}
 use mathlib.Core.Bool.{Bool, false, not, _||_}
 use Prim.Native.Nat.{ℕ, suc, _+_, _*_, _-_, _/_, _%_, _^_, _≤_, _<_}
 use lib.Dec.{leb, eqb}
-use Rattle.kinds.specs.Operation.{Op}
+use Rattle.kinds.specs.declared.Op.{Op}
 use Rattle.kinds.specs.Guard.{placeOf}
 use Rattle.ieee.specs.Format.{Format, unitOf, infinity, magnitudeOf}
 use Rattle.ieee.specs.Rounded.{side, limit, twice, fits, lowerOf, placeAt}

@@ -2,8 +2,10 @@
 use Prim.Native.Nat.{ℕ, suc, _+_, _*_, _^_}
 use mathlib.Core.Bool.{Bool, cond, not, _&&_, _||_}
 use lib.Dec.{leb, ltb, eqb}
-use Rattle.kinds.specs.Operation.{Op, reciprocal, root, inverseRoot}
-use Rattle.kinds.specs.Rounding.{Mode, Place, placeBy, roundedBy}
+use Rattle.kinds.specs.declared.Op.{Op}
+use Rattle.kinds.specs.declared.Op.the-variants.{Reciprocal, Root, InverseRoot}
+use Rattle.kinds.specs.declared.Mode.{Mode}
+use Rattle.kinds.specs.Rounding.{Place, placeBy, roundedBy}
 use Rattle.kinds.specs.Flag.{overflow, underflow, inexact}
 use Rattle.numbers.specs.Greatest.{greatest}
 use Rattle.ieee.specs.Format.{Format, unitOf, infinity, leastNormal, magnitudeOf}
@@ -11,20 +13,20 @@ use Rattle.ieee.specs.Format.{Format, unitOf, infinity, leastNormal, mag
 -- The operand has the magnitude x and some number the magnitude v, both in units of 2^-u. The number is at most the exact result
 -- where `side` is at most `limit`: for the reciprocal x·v ≤ 2^2u, for the root v² ≤ x·2^u, for the inverse root v²·x ≤ 2^3u
 abbrev pub side : Op → ℕ → ℕ → ℕ
-side reciprocal x v = x * v
-side root x v = v * v
-side inverseRoot x v = v * v * x
+side Reciprocal x v = x * v
+side Root x v = v * v
+side InverseRoot x v = v * v * x
 
 abbrev pub limit : ℕ → Op → ℕ → ℕ
-limit u reciprocal x = 2 ^ (2 * u)
-limit u root x = x * 2 ^ u
-limit u inverseRoot x = 2 ^ (3 * u)
+limit u Reciprocal x = 2 ^ (2 * u)
+limit u Root x = x * 2 ^ u
+limit u InverseRoot x = 2 ^ (3 * u)
 
 -- the factor by which the limit grows where the exact result is doubled
 abbrev pub twice : Op → ℕ
-twice reciprocal = 2
-twice root = 4
-twice inverseRoot = 4
+twice Reciprocal = 2
+twice Root = 4
+twice InverseRoot = 4
 
 -- the magnitude v is at most the exact result
 unfoldable pub fits : Format → Op → ℕ → ℕ → Bool

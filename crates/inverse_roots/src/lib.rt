@@ -2,13 +2,13 @@
 // read-only memory, and its rule is proved at all entries by one computed test.
 ghost use mathlib.Core.Path.{_≡_};
 ghost use Prim.Native.Nat.{_≤_};
-ghost use Rattle.kinds.specs.Operation.{inverseRoot};
+ghost use Rattle.kinds.specs.declared.Op.the-variants.{InverseRoot};
 ghost use Rattle.significand.specs.Steps.{factorOf, multiplierOf};
 
 // M of the inverse root.
 pub fn inverse_root(i: u8, p: u8) -> u64
     requires { ⌜ (128 ≤ i) × (p ≤ 1) ⌝ }
-    ensures { λ r. ⌜ r ≡ multiplierOf 7 inverseRoot (factorOf 7 i) p ⌝ }
+    ensures { λ r. ⌜ r ≡ multiplierOf 7 InverseRoot (factorOf 7 i) p ⌝ }
 {
     if p == 0 {
         inverse_root_even(i)
@@ -20,7 +20,7 @@ pub fn inverse_root(i: u8, p: u8) -> u64
 // M of the inverse root, parity 0.
 fn inverse_root_even(i: u8) -> u64
     requires { ⌜ 128 ≤ i ⌝ }
-    ensures { λ r. ⌜ r ≡ multiplierOf 7 inverseRoot (factorOf 7 i) 0 ⌝ }
+    ensures { λ r. ⌜ r ≡ multiplierOf 7 InverseRoot (factorOf 7 i) 0 ⌝ }
 {
     match i {
         128 => 268435456,
@@ -157,7 +157,7 @@ fn inverse_root_even(i: u8) -> u64
 // M of the inverse root, parity 1.
 fn inverse_root_odd(i: u8) -> u64
     requires { ⌜ 128 ≤ i ⌝ }
-    ensures { λ r. ⌜ r ≡ multiplierOf 7 inverseRoot (factorOf 7 i) 1 ⌝ }
+    ensures { λ r. ⌜ r ≡ multiplierOf 7 InverseRoot (factorOf 7 i) 1 ⌝ }
 {
     match i {
         128 => 189812531,

@@ -4,7 +4,9 @@ use mathlib.Core.Bool.{Bool, true, false, cond, not, _&&_, _||_}
 use Prim.Native.Nat.{ℕ, suc, _%_, _≤_}
 use native.Mathlib.Omega.{arith}
 use lib.Dec.{eqb}
-use Rattle.kinds.specs.Rounding.{Mode, nearest, up, down, towardZero, Place, away, roundedBy}
+use Rattle.kinds.specs.declared.Mode.{Mode}
+use Rattle.kinds.specs.declared.Mode.the-variants.{Nearest, Up, Down, TowardZero}
+use Rattle.kinds.specs.Rounding.{Place, away, roundedBy}
 use Rattle.kinds.specs.Guard.{placeOf}
 
 -- the result is at most the next neighbour
@@ -16,29 +18,45 @@ next-most mode negative t place = go (away mode negative (eqb (t % 2) 1) place)
     go true = omega arith
     go false = omega arith
 
+-- each rounding on the two bits
 module _ (negative odd : Bool) where
-  pub nearest-is : (half more : Bool) → half && (more || odd) ≡ away nearest negative odd (placeOf half more)
+  to-nearest : (half more : Bool) → half && (more || odd) ≡ away Nearest negative odd (placeOf half more)
   unfolding away
-  nearest-is false false = refl
-  nearest-is false true = refl
-  nearest-is true false = refl
-  nearest-is true true = refl
+  to-nearest false false = refl
+  to-nearest false true = refl
+  to-nearest true false = refl
+  to-nearest true true = refl
 
-  pub up-is : (half more : Bool) → (half || more) && not negative ≡ away up negative odd (placeOf half more)
+  upward : (half more : Bool) → (half || more) && not negative ≡ away Up negative odd (placeOf half more)
   unfolding away
-  up-is false false = refl
-  up-is false true = refl
-  up-is true false = refl
-  up-is true true = refl
+  upward false false = refl
+  upward false true = refl
+  upward true false = refl
+  upward true true = refl
 
-  -- the last two modes, told apart by a test
-  pub rest-is : (test half more : Bool) → test && (half || more) && negative ≡ away (cond test down towardZero) negative odd (placeOf half more)
+  downward : (half more : Bool) → (half || more) && negative ≡ away Down negative odd (placeOf half more)
   unfolding away
-  rest-is false false false = refl
-  rest-is false false true = refl
-  rest-is false true false = refl
-  rest-is false true true = refl
-  rest-is true false false = refl
-  rest-is true false true = refl
-  rest-is true true false = refl
-  rest-is true true true = refl
+  downward false false = refl
+  downward false true = refl
+  downward true false = refl
+  downward true true = refl
+
+  inward : (half more : Bool) → false ≡ away TowardZero negative odd (placeOf half more)
+  unfolding away
+  inward false false = refl
+  inward false true = refl
+  inward true false = refl
+  inward true true = refl
+
+  module _ (mode : Mode) (half more : Bool) where
+    pub nearest-is : mode ≡ Nearest → half && (more || odd) ≡ away mode negative odd (placeOf half more)
+    nearest-is e = rw e (to-nearest half more)
+
+    pub up-is : mode ≡ Up → (half || more) && not negative ≡ away mode negative odd (placeOf half more)
+    up-is e = rw e (upward half more)
+
+    pub down-is : mode ≡ Down → (half || more) && negative ≡ away mode negative odd (placeOf half more)
+    down-is e = rw e (downward half more)
+
+    pub toward-zero-is : mode ≡ TowardZero → false ≡ away mode negative odd (placeOf half more)
+    toward-zero-is e = rw e (inward half more)

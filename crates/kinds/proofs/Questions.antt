@@ -1,10 +1,14 @@
--- What a question that was passed tells, and which number is the reciprocal's. Assumes nothing.
+-- What a question that was passed tells, and the cases of the numbers. Assumes nothing.
 use mathlib.Core.Path.{_≡_, refl}
 use mathlib.Core.Bool.{Bool, true, false, cond}
 use Prim.Native.Nat.{ℕ, suc}
 use native.Mathlib.Omega.{arith}
 use lib.Dec.{T, eqb}
-use Rattle.kinds.specs.Operation.{opOf, isReciprocal, reciprocal, root, inverseRoot}
+use borrow.Author.Tests.{ne-eqb}
+use Rattle.kinds.specs.declared.Op.the-variants.{Reciprocal, Root, InverseRoot}
+use Rattle.kinds.specs.Operation.{opOf, isReciprocal}
+use Rattle.kinds.specs.declared.Mode.the-variants.{Nearest, Up, Down, TowardZero}
+use Rattle.kinds.specs.Rounding.{modeOf}
 use Rattle.kinds.specs.Question.{ask}
 
 -- a question that did not give its number was answered yes
@@ -21,7 +25,29 @@ sure false h = absurd h
 pub reciprocal-named : (n : ℕ) → isReciprocal (opOf n) ≡ eqb n 1
 reciprocal-named n = named (eqb n 1) (eqb n 2)
   where
-    named : (a b : Bool) → isReciprocal (cond a reciprocal (cond b root inverseRoot)) ≡ a
+    named : (a b : Bool) → isReciprocal (cond a Reciprocal (cond b Root InverseRoot)) ≡ a
     named true b = refl
     named false true = refl
     named false false = refl
+
+-- the case of a number, by the tests that found it
+pub op-first : (n : ℕ) → n ≡ 1 → Reciprocal ≡ opOf n
+op-first n e = rw e
+
+pub op-second : (n : ℕ) → n ≡ 2 → Root ≡ opOf n
+op-second n e = rw e
+
+pub op-last : (n : ℕ) → (n ≡ 1 → ⊥) → (n ≡ 2 → ⊥) → InverseRoot ≡ opOf n
+op-last n a b = rw (ne-eqb n 1 a, ne-eqb n 2 b)
+
+pub mode-first : (n : ℕ) → n ≡ 0 → Nearest ≡ modeOf n
+mode-first n e = rw e
+
+pub mode-second : (n : ℕ) → n ≡ 1 → Up ≡ modeOf n
+mode-second n e = rw e
+
+pub mode-third : (n : ℕ) → n ≡ 2 → Down ≡ modeOf n
+mode-third n e = rw e
+
+pub mode-last : (n : ℕ) → (n ≡ 0 → ⊥) → (n ≡ 1 → ⊥) → (n ≡ 2 → ⊥) → TowardZero ≡ modeOf n
+mode-last n a b c = rw (ne-eqb n 0 a, ne-eqb n 1 b, ne-eqb n 2 c)

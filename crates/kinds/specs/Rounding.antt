@@ -1,10 +1,9 @@
--- The four roundings, and which of two neighbours each takes. Assumes nothing.
+-- The four roundings, whose cases are those of `kinds::Mode`, their numbers, and which of two neighbours each takes. Assumes nothing.
 use Prim.Native.Nat.{ℕ, suc, _%_}
 use mathlib.Core.Bool.{Bool, true, false, cond, not}
 use lib.Dec.{eqb, leb, ltb}
-
-pub data Mode : Type 0 where
-  nearest up down towardZero : Mode
+use Rattle.kinds.specs.declared.Mode.{Mode}
+use Rattle.kinds.specs.declared.Mode.the-variants.{Nearest, Up, Down, TowardZero}
 
 -- question 2: is the rounding 0 to 3?
 abbrev pub isRounding : ℕ → Bool
@@ -12,7 +11,7 @@ isRounding n = leb n 3
 
 -- 0 nearest with ties to even, 1 up, 2 down, 3 toward zero
 abbrev pub modeOf : ℕ → Mode
-modeOf n = cond (eqb n 0) nearest (cond (eqb n 1) up (cond (eqb n 2) down towardZero))
+modeOf n = cond (eqb n 0) Nearest (cond (eqb n 1) Up (cond (eqb n 2) Down TowardZero))
 
 -- where an exact magnitude lies between two neighbours: at the lower, or below, at or above the midpoint
 pub data Place : Type 0 where
@@ -21,18 +20,18 @@ pub data Place : Type 0 where
 -- whether the neighbour farther from zero is taken, by the sign, whether the lower neighbour is odd, and the place
 unfoldable pub away : Mode → Bool → Bool → Place → Bool
 away mode negative odd exact = false
-away nearest negative odd below = false
-away nearest negative odd half = odd
-away nearest negative odd above = true
-away up negative odd below = not negative
-away up negative odd half = not negative
-away up negative odd above = not negative
-away down negative odd below = negative
-away down negative odd half = negative
-away down negative odd above = negative
-away towardZero negative odd below = false
-away towardZero negative odd half = false
-away towardZero negative odd above = false
+away Nearest negative odd below = false
+away Nearest negative odd half = odd
+away Nearest negative odd above = true
+away Up negative odd below = not negative
+away Up negative odd half = not negative
+away Up negative odd above = not negative
+away Down negative odd below = negative
+away Down negative odd half = negative
+away Down negative odd above = negative
+away TowardZero negative odd below = false
+away TowardZero negative odd half = false
+away TowardZero negative odd above = false
 
 -- the place, from a product that grows with the number: its value at the lower neighbour against the limit that the exact value
 -- reaches, and its value at the sum of both neighbours, twice the midpoint, against the limit for twice the exact value

@@ -1,7 +1,7 @@
 -- The rows of a map's inner points, as the code puts them. Assumes nothing.
 use Prim.Native.Nat.{ℕ, _+_, _*_}
 use mathlib.Core.List.{List}
-use Rattle.kinds.specs.Rounding.{Mode}
+use Rattle.kinds.specs.declared.Mode.{Mode}
 use Rattle.words.specs.Joined.{joined}
 use Rattle.cutter.specs.List.{recordAt}
 

@@ -12,7 +12,8 @@ use borrow.Author.Tests.{lt-ltb, le-ltb, eq-eqb, ne-eqb}
 use lib.Dec.{eqb, le→leb, leb→le}
 use mir.Syntax.{w64}
 use mir.Val.{Fits}
-use Rattle.kinds.specs.Rounding.{Mode, exact, away, placeBy, roundedBy}
+use Rattle.kinds.specs.declared.Mode.{Mode}
+use Rattle.kinds.specs.Rounding.{exact, away, placeBy, roundedBy}
 use Rattle.kinds.specs.Guard.{placeOf}
 use Rattle.kinds.proofs.Neighbours.{next-most}
 use Rattle.numbers.proofs.Greatest.{greatest-is, squareFits, square-antitone}

@@ -10,7 +10,9 @@ use borrow.Author.Tests.{lt-ltb, le-ltb, eq-eqb, ne-eqb}
 use lib.Dec.{eqb}
 use mir.Syntax.{w64}
 use mir.Val.{Fits}
-use Rattle.kinds.specs.Rounding.{Mode, nearest, up, down, towardZero, modeOf, away, roundedBy}
+use Rattle.kinds.specs.declared.Mode.{Mode}
+use Rattle.kinds.specs.declared.Mode.the-variants.{Nearest, Up, Down, TowardZero}
+use Rattle.kinds.specs.Rounding.{modeOf, away, roundedBy}
 use Rattle.kinds.specs.Guard.{placeOf}
 use Rattle.cutter.specs.Offset.{roundedOver}
 use Rattle.offset.specs.Inverse.{InverseOf, DoubledOver, Ranges, Sizes}
@@ -49,57 +51,57 @@ module _ (n q floor left : ℕ) (pos : 0 < q) (doubled : DoubledOver n q floor l
 
 -- what a rounding does at a place
 module _ (t : ℕ) where
-  zero-stays : (negative a b : Bool) → roundedBy towardZero negative t (placeOf a b) ≡ t
+  zero-stays : (negative a b : Bool) → roundedBy TowardZero negative t (placeOf a b) ≡ t
   unfolding roundedBy away
   zero-stays negative false false = refl
   zero-stays negative false true = refl
   zero-stays negative true false = refl
   zero-stays negative true true = refl
 
-  up-stays : (a b : Bool) → roundedBy up true t (placeOf a b) ≡ t
+  up-stays : (a b : Bool) → roundedBy Up true t (placeOf a b) ≡ t
   unfolding roundedBy away
   up-stays false false = refl
   up-stays false true = refl
   up-stays true false = refl
   up-stays true true = refl
 
-  down-stays : (a b : Bool) → roundedBy down false t (placeOf a b) ≡ t
+  down-stays : (a b : Bool) → roundedBy Down false t (placeOf a b) ≡ t
   unfolding roundedBy away
   down-stays false false = refl
   down-stays false true = refl
   down-stays true false = refl
   down-stays true true = refl
 
-  down-as-up : (a b : Bool) → roundedBy up false t (placeOf a b) ≡ roundedBy down true t (placeOf a b)
+  down-as-up : (a b : Bool) → roundedBy Up false t (placeOf a b) ≡ roundedBy Down true t (placeOf a b)
   unfolding roundedBy away
   down-as-up false false = refl
   down-as-up false true = refl
   down-as-up true false = refl
   down-as-up true true = refl
 
-  up-exact : t ≡ roundedBy up false t (placeOf false false)
+  up-exact : t ≡ roundedBy Up false t (placeOf false false)
   unfolding roundedBy away
   up-exact = refl
 
-  up-below : suc t ≡ roundedBy up false t (placeOf false true)
+  up-below : suc t ≡ roundedBy Up false t (placeOf false true)
   unfolding roundedBy away
   up-below = refl
 
-  up-odd : (b : Bool) → suc t ≡ roundedBy up false t (placeOf true b)
+  up-odd : (b : Bool) → suc t ≡ roundedBy Up false t (placeOf true b)
   unfolding roundedBy away
   up-odd false = refl
   up-odd true = refl
 
-  nearest-even : (negative b : Bool) → t ≡ roundedBy nearest negative t (placeOf false b)
+  nearest-even : (negative b : Bool) → t ≡ roundedBy Nearest negative t (placeOf false b)
   unfolding roundedBy away
   nearest-even negative false = refl
   nearest-even negative true = refl
 
-  nearest-above : (negative : Bool) → suc t ≡ roundedBy nearest negative t (placeOf true true)
+  nearest-above : (negative : Bool) → suc t ≡ roundedBy Nearest negative t (placeOf true true)
   unfolding roundedBy away
   nearest-above negative = refl
 
-  nearest-half : (negative : Bool) → cond (eqb (t % 2) 1) (suc t) t ≡ roundedBy nearest negative t (placeOf true false)
+  nearest-half : (negative : Bool) → cond (eqb (t % 2) 1) (suc t) t ≡ roundedBy Nearest negative t (placeOf true false)
   unfolding roundedBy away
   nearest-half negative = refl
 
@@ -119,7 +121,7 @@ module _ (n q floor left start : ℕ) (pos : 0 < q) (doubled : DoubledOver n q f
       let e : t + 1 ≡ floor / 2 = omega arith in
       goes-at n q floor left pos doubled t m tie (omega arith) (omega arith) ∙ e)
 
-  outward : settledBy 0 start n q ≡ roundedBy up false (floor / 2) (placeOf (eqb (floor % 2) 1) (not (eqb left 0)))
+  outward : settledBy 0 start n q ≡ roundedBy Up false (floor / 2) (placeOf (eqb (floor % 2) 1) (not (eqb left 0)))
   unfolding settledBy
   outward =
       let t : ℕ = (start + 1) / 2 in
@@ -149,7 +151,7 @@ module _ (n q floor left start : ℕ) (pos : 0 < q) (doubled : DoubledOver n q f
       stays-at n q floor left pos doubled t m tie same (omega arith)
       ∙ simp (ne-eqb (floor % 2) 1 z, eq-eqb left 0 (omega arith)) (e ∙ up-exact (floor / 2)))))
 
-  halfway : (negative : Bool) → settledBy 1 start n q ≡ roundedBy nearest negative (floor / 2) (placeOf (eqb (floor % 2) 1) (not (eqb left 0)))
+  halfway : (negative : Bool) → settledBy 1 start n q ≡ roundedBy Nearest negative (floor / 2) (placeOf (eqb (floor % 2) 1) (not (eqb left 0)))
   unfolding settledBy
   halfway negative =
       let t : ℕ = (start + 0) / 2 in
@@ -203,12 +205,12 @@ module _ (n q floor left start : ℕ) (pos : 0 < q) (doubled : DoubledOver n q f
   settled-at : (mode : Mode) (negative : Bool)
       → settledBy (restOf mode negative) start n q ≡ roundedBy mode negative (floor / 2) (placeOf (eqb (floor % 2) 1) (not (eqb left 0)))
   unfolding restOf
-  settled-at nearest negative = halfway negative
-  settled-at up false = outward
-  settled-at up true = toward ∙ sym (up-stays (floor / 2) (eqb (floor % 2) 1) (not (eqb left 0)))
-  settled-at down false = toward ∙ sym (down-stays (floor / 2) (eqb (floor % 2) 1) (not (eqb left 0)))
-  settled-at down true = outward ∙ down-as-up (floor / 2) (eqb (floor % 2) 1) (not (eqb left 0))
-  settled-at towardZero negative = toward ∙ sym (zero-stays (floor / 2) negative (eqb (floor % 2) 1) (not (eqb left 0)))
+  settled-at Nearest negative = halfway negative
+  settled-at Up false = outward
+  settled-at Up true = toward ∙ sym (up-stays (floor / 2) (eqb (floor % 2) 1) (not (eqb left 0)))
+  settled-at Down false = toward ∙ sym (down-stays (floor / 2) (eqb (floor % 2) 1) (not (eqb left 0)))
+  settled-at Down true = outward ∙ down-as-up (floor / 2) (eqb (floor % 2) 1) (not (eqb left 0))
+  settled-at TowardZero negative = toward ∙ sym (zero-stays (floor / 2) negative (eqb (floor % 2) 1) (not (eqb left 0)))
 
 -- the floor and what is left, which the code does not work out
 record Found (mode : Mode) (negative : Bool) (n q r : ℕ) : Type 0 where
@@ -256,12 +258,12 @@ settled-most mode negative low shift component radius q r ranges inverse e =
 
 -- ---- the code's numbers
 
-up-rest : (b : Bool) → cond b 2 0 ≡ restOf up b
+up-rest : (b : Bool) → cond b 2 0 ≡ restOf Up b
 unfolding restOf
 up-rest true = refl
 up-rest false = refl
 
-down-rest : (b : Bool) → cond (not b) 2 0 ≡ restOf down b
+down-rest : (b : Bool) → cond (not b) 2 0 ≡ restOf Down b
 unfolding restOf
 down-rest true = refl
 down-rest false = refl

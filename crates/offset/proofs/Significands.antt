@@ -11,7 +11,7 @@ use lib.Pow.{pow-pos, pow-add}
 use mir.Syntax.{w64}
 use mir.Val.{Fits}
 use Rattle.numbers.proofs.Ring.{E, v, #, _⊕_, _⊗_, _⊙_⊑_, nlin×}
-use Rattle.kinds.specs.Operation.{inverseRoot}
+use Rattle.kinds.specs.declared.Op.the-variants.{InverseRoot}
 use Rattle.significand.specs.Steps.{rawOf}
 use Rattle.significand.specs.Distance.{Near}
 use Rattle.significand.proofs.Accepted.{raw-near}
@@ -158,7 +158,7 @@ parity-most j = omega (arith, mod-lt j {m = 2} (omega arith))
 parity-power : (p : ℕ) → p ≤ 1 → (1 ≤ 2 ^ p) × (2 ^ p ≤ 2)
 parity-power p h = (pow-pos p, pow-le-pow-right {n = 2} (omega arith) h)
 
-module _ (q : ℕ) (pos : 0 < q) (small : q < 2 ^ 35) (g : ℕ) (near : Near inverseRoot 7 3 (significandOf q) (exponentOf q % 2) 8 g) where
+module _ (q : ℕ) (pos : 0 < q) (small : q < 2 ^ 35) (g : ℕ) (near : Near InverseRoot 7 3 (significandOf q) (exponentOf q % 2) 8 g) where
   inverse-near : (24 ≤ g) × InverseOf q (g - 24) (27 + exponentOf q / 2)
   inverse-near =
       let y : ℕ = significandOf q in
@@ -187,10 +187,10 @@ module _ (q : ℕ) (pos : 0 < q) (small : q < 2 ^ 35) (g : ℕ) (near : Near inv
         },
       )
 
-module _ (q : ℕ) (pos : 0 < q) (small : q < 2 ^ 35) (g : ℕ) (raw : g ≡ rawOf 7 3 inverseRoot (significandOf q) (exponentOf q % 2)) where
-  near : Near inverseRoot 7 3 (significandOf q) (exponentOf q % 2) 8 g
+module _ (q : ℕ) (pos : 0 < q) (small : q < 2 ^ 35) (g : ℕ) (raw : g ≡ rawOf 7 3 InverseRoot (significandOf q) (exponentOf q % 2)) where
+  near : Near InverseRoot 7 3 (significandOf q) (exponentOf q % 2) 8 g
   near =
-      raw-near inverseRoot (significandOf q) (exponentOf q % 2) g (significand-least q pos small) (significand-most q pos small)
+      raw-near InverseRoot (significandOf q) (exponentOf q % 2) g (significand-least q pos small) (significand-most q pos small)
       (parity-most (exponentOf q)) raw
 
   pub answer-above : 24 ≤ g

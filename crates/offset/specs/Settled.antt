@@ -2,16 +2,17 @@
 use Prim.Native.Nat.{ℕ, _+_, _-_, _*_, _/_, _%_}
 use mathlib.Core.Bool.{Bool, true, false, cond}
 use lib.Dec.{ltb}
-use Rattle.kinds.specs.Rounding.{Mode, nearest, up, down, towardZero}
+use Rattle.kinds.specs.declared.Mode.{Mode}
+use Rattle.kinds.specs.declared.Mode.the-variants.{Nearest, Up, Down, TowardZero}
 
 -- what a rounding leaves of the way between two neighbours, in halves: 0 away from zero, 1 to the nearest, 2 toward zero
 unfoldable pub restOf : Mode → Bool → ℕ
-restOf nearest negative = 1
-restOf up false = 0
-restOf up true = 2
-restOf down false = 2
-restOf down true = 0
-restOf towardZero negative = 2
+restOf Nearest negative = 1
+restOf Up false = 0
+restOf Up true = 2
+restOf Down false = 2
+restOf Down true = 0
+restOf TowardZero negative = 2
 
 -- t or the next, by m²·q against 4·n²
 unfoldable pub stepped : ℕ → ℕ → ℕ → ℕ → ℕ → ℕ

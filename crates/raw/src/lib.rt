@@ -2,7 +2,7 @@
 // The functions follow the numbered steps; an answer g stands for g / 2^28.
 ghost use mathlib.Core.Path.{_≡_};
 ghost use Prim.Native.Nat.{_*_, _/_, _≤_, _<_, _^_};
-ghost use Rattle.kinds.specs.Operation.{reciprocal as Op·reciprocal, root as Op·root, inverseRoot as Op·inverseRoot};
+ghost use Rattle.kinds.specs.declared.Op.the-variants.{Reciprocal, Root, InverseRoot};
 ghost use Rattle.significand.specs.Steps.{rawOf};
 use series::inverse_root_series;
 use series::reciprocal_series;
@@ -19,7 +19,7 @@ fn scaled(m: u64, b: u64) -> u32
 
 pub fn reciprocal(y: u32) -> u32
     requires { ⌜ (8388608 ≤ y) × (y < 16777216) ⌝ }
-    ensures { λ r. ⌜ r ≡ rawOf 7 3 Op·reciprocal y 0 ⌝ }
+    ensures { λ r. ⌜ r ≡ rawOf 7 3 Reciprocal y 0 ⌝ }
 {
     let i = (y >> 16) as u8;
     let r = factors::factor(i);
@@ -31,7 +31,7 @@ pub fn reciprocal(y: u32) -> u32
 // The root of Y, or of 2Y where p is 1.
 pub fn root(y: u32, p: u32) -> u32
     requires { ⌜ (8388608 ≤ y) × (y < 16777216) × (p ≤ 1) ⌝ }
-    ensures { λ r. ⌜ r ≡ rawOf 7 3 Op·root y p ⌝ }
+    ensures { λ r. ⌜ r ≡ rawOf 7 3 Root y p ⌝ }
 {
     let i = (y >> 16) as u8;
     let r = factors::factor(i);
@@ -43,7 +43,7 @@ pub fn root(y: u32, p: u32) -> u32
 // The inverse root of Y, or of 2Y where p is 1.
 pub fn inverse_root(y: u32, p: u32) -> u32
     requires { ⌜ (8388608 ≤ y) × (y < 16777216) × (p ≤ 1) ⌝ }
-    ensures { λ r. ⌜ r ≡ rawOf 7 3 Op·inverseRoot y p ⌝ }
+    ensures { λ r. ⌜ r ≡ rawOf 7 3 InverseRoot y p ⌝ }
 {
     let i = (y >> 16) as u8;
     let r = factors::factor(i);

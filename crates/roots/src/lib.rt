@@ -2,13 +2,13 @@
 // memory, and its rule is proved at all entries by one computed test.
 ghost use mathlib.Core.Path.{_≡_};
 ghost use Prim.Native.Nat.{_≤_};
-ghost use Rattle.kinds.specs.Operation.{root as Op·root};
+ghost use Rattle.kinds.specs.declared.Op.the-variants.{Root};
 ghost use Rattle.significand.specs.Steps.{factorOf, multiplierOf};
 
 // M of the root.
 pub fn root(i: u8, p: u8) -> u64
     requires { ⌜ (128 ≤ i) × (p ≤ 1) ⌝ }
-    ensures { λ r. ⌜ r ≡ multiplierOf 7 Op·root (factorOf 7 i) p ⌝ }
+    ensures { λ r. ⌜ r ≡ multiplierOf 7 Root (factorOf 7 i) p ⌝ }
 {
     if p == 0 { root_even(i) } else { root_odd(i) }
 }
@@ -16,7 +16,7 @@ pub fn root(i: u8, p: u8) -> u64
 // M of the root, parity 0.
 fn root_even(i: u8) -> u64
     requires { ⌜ 128 ≤ i ⌝ }
-    ensures { λ r. ⌜ r ≡ multiplierOf 7 Op·root (factorOf 7 i) 0 ⌝ }
+    ensures { λ r. ⌜ r ≡ multiplierOf 7 Root (factorOf 7 i) 0 ⌝ }
 {
     match i {
         128 => 268435456,
@@ -153,7 +153,7 @@ fn root_even(i: u8) -> u64
 // M of the root, parity 1.
 fn root_odd(i: u8) -> u64
     requires { ⌜ 128 ≤ i ⌝ }
-    ensures { λ r. ⌜ r ≡ multiplierOf 7 Op·root (factorOf 7 i) 1 ⌝ }
+    ensures { λ r. ⌜ r ≡ multiplierOf 7 Root (factorOf 7 i) 1 ⌝ }
 {
     match i {
         128 => 379625062,

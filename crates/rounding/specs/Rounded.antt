@@ -2,7 +2,8 @@
 use mathlib.Core.Bool.{cond, _&&_, _||_}
 use Prim.Native.Nat.{ℕ, suc, _+_, _%_}
 use lib.Dec.{eqb, ltb}
-use Rattle.kinds.specs.Rounding.{Mode, away}
+use Rattle.kinds.specs.declared.Mode.{Mode}
+use Rattle.kinds.specs.Rounding.{away}
 use Rattle.kinds.specs.Guard.{placeOf}
 use Rattle.kinds.specs.Flag.{overflow, underflow, inexact}
 use Rattle.ieee.specs.Format.{binary32, infinity, leastNormal}

@@ -3,7 +3,8 @@ use mathlib.Core.Path.{_≡_}
 use Prim.Native.Nat.{ℕ, _*_, _/_, _^_, _≤_, _<_}
 use native.Mathlib.Nat.{mul-le-mul}
 use native.Mathlib.Omega.{arith}
-use Rattle.kinds.specs.Operation.{Op, reciprocal}
+use Rattle.kinds.specs.declared.Op.{Op}
+use Rattle.kinds.specs.declared.Op.the-variants.{Reciprocal}
 use Rattle.significand.specs.Steps.{indexOf, factorOf, reducedOf, multiplierOf}
 use Rattle.significand.proofs.Sizes.{Sizes, sizes}
 
@@ -23,7 +24,7 @@ module _ (y : ℕ) (low : 8388608 ≤ y) (high : y < 16777216) where
     -- R has 9 bits, and y × R 33
     pub factor-small : r ≤ 256
     unfolding indexOf
-    factor-small = rw e (known reciprocal 0 (omega arith) .factor-most)
+    factor-small = rw e (known Reciprocal 0 (omega arith) .factor-most)
 
     pub reduced-product : y * r < 2 ^ 33
     reduced-product = omega (arith, mul-le-mul {n₁ = y} {m₁ = r} {n₂ = 16777216} {m₂ = 256} (omega arith) factor-small)
@@ -31,7 +32,7 @@ module _ (y : ℕ) (low : 8388608 ≤ y) (high : y < 16777216) where
     -- a has 21 bits
     pub reduced-small : reducedOf 7 3 (y * r) < 2 ^ 21
     unfolding indexOf
-    reduced-small = rw e (known reciprocal 0 (omega arith) .reduced)
+    reduced-small = rw e (known Reciprocal 0 (omega arith) .reduced)
 
   -- M has 30 bits
   pub multiplier-small : (op : Op) (p m : ℕ) → p ≤ 1 → m ≡ multiplierOf 7 op (factorOf 7 (y / 65536)) p → m < 2 ^ 30

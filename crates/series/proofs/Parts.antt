@@ -4,7 +4,8 @@ use mathlib.Core.Bool.{Bool, true, false}
 use Prim.Native.Nat.{ℕ, _+_, _-_, _*_, _/_, _≤_, _<_}
 use native.Mathlib.Nat.{mul-assoc}
 use native.Mathlib.Omega.{arith}
-use Rattle.kinds.specs.Operation.{Op, reciprocal, root, inverseRoot}
+use Rattle.kinds.specs.declared.Op.{Op}
+use Rattle.kinds.specs.declared.Op.the-variants.{Reciprocal, Root, InverseRoot}
 use Rattle.significand.specs.Steps.{plus, less, digit2, digit3, carryOf, indexOf, factorOf, signOf, reducedOf, sumOf, seriesOf, multiplierOf, rawOf}
 use lib.Dec.{leb}
 use Rattle.series.proofs.Bounds.{reduced-small}
@@ -20,13 +21,13 @@ reduced-is y r m low high e f = record { sign = refl; magnitude = f; small = rw 
 
 module _ (a : ℕ) (t : Terms) (p : Products a t) (first sum : ℕ) where
   pub reciprocal-is : (s : Bool) → first ≡ less s 268435456 a → sum ≡ less s (128 * (first + t .square) + 2 * t .cross) (t .cube)
-      → sum / 128 ≡ seriesOf 7 reciprocal s a
+      → sum / 128 ≡ seriesOf 7 Reciprocal s a
   unfolding sumOf
   reciprocal-is true e f = cc (mul-assoc 2 (digit2 7 a) (digit3 7 a))
   reciprocal-is false e f = cc (mul-assoc 2 (digit2 7 a) (digit3 7 a))
 
   pub root-is : (s : Bool) → first ≡ plus s 549755813888 (1024 * a) → sum ≡ plus s (first - 256 * t .square - 4 * t .cross) (t .cube)
-      → sum / 2048 ≡ seriesOf 7 root s a
+      → sum / 2048 ≡ seriesOf 7 Root s a
   unfolding sumOf
   root-is true e f = cc (mul-assoc 256 (digit2 7 a) (digit2 7 a), mul-assoc 4 (digit2 7 a) (digit3 7 a))
   root-is false e f = cc (mul-assoc 256 (digit2 7 a) (digit2 7 a), mul-assoc 4 (digit2 7 a) (digit3 7 a))
@@ -38,7 +39,7 @@ less-less false x y u v z h = omega arith
 
 module _ (a : ℕ) (t : Terms) (p : Products a t) (sum : ℕ) where
   pub inverse-root-is : (s : Bool) → a < 2097152
-      → sum ≡ less s (549755813888 + 768 * t .square + 12 * t .cross) (1024 * a + 5 * t .cube) → sum / 2048 ≡ seriesOf 7 inverseRoot s a
+      → sum ≡ less s (549755813888 + 768 * t .square + 12 * t .cross) (1024 * a + 5 * t .cube) → sum / 2048 ≡ seriesOf 7 InverseRoot s a
   unfolding sumOf
   inverse-root-is s h f =
       let g = less-less s 549755813888 (768 * t .square) (1024 * a) (5 * t .cube) (12 * t .cross) (omega arith) in
@@ -52,6 +53,6 @@ module _ (y r b g : ℕ) (d : Reduction) (e : r ≡ factorOf 7 (y / 65536)) (h :
   raw-is op p m em eb eg = cc
 
   -- for the reciprocal M is R × 2^20
-  pub reciprocal-raw-is : b ≡ seriesOf 7 reciprocal (d .positive) (d .magnitude) → g ≡ r * 1048576 * b / 268435456 → g ≡ rawOf 7 3 reciprocal y 0
+  pub reciprocal-raw-is : b ≡ seriesOf 7 Reciprocal (d .positive) (d .magnitude) → g ≡ r * 1048576 * b / 268435456 → g ≡ rawOf 7 3 Reciprocal y 0
   unfolding multiplierOf
-  reciprocal-raw-is eb eg = raw-is reciprocal 0 (r * 1048576) (cc) eb eg
+  reciprocal-raw-is eb eg = raw-is Reciprocal 0 (r * 1048576) (cc) eb eg

@@ -1,7 +1,7 @@
 // Steps 2 and 3 of the raw unit at k = 7: the reduction of a significand, and the three series.
 ghost use mathlib.Core.Path.{_≡_};
 ghost use Prim.Native.Nat.{_+_, _*_, _/_, _≤_, _<_, _^_};
-ghost use Rattle.kinds.specs.Operation.{reciprocal, root, inverseRoot};
+ghost use Rattle.kinds.specs.declared.Op.the-variants.{Reciprocal, Root, InverseRoot};
 ghost use Rattle.significand.specs.Steps.{plus as Steps·plus, less as Steps·less, factorOf, reducedOf, seriesOf};
 ghost use Rattle.series.specs.Parts.{Reduced, Products};
 
@@ -82,7 +82,7 @@ fn less(positive: bool, x: u64, y: u64) -> u64
 // Step 3, the series b of each operation.
 pub fn reciprocal_series(positive: bool, a: u64) -> u64
     requires { ⌜ a < 2 ^ 21 ⌝ }
-    ensures { λ r. ⌜ (r ≡ seriesOf 7 reciprocal positive a) × (r < 2 ^ 29) ⌝ }
+    ensures { λ r. ⌜ (r ≡ seriesOf 7 Reciprocal positive a) × (r < 2 ^ 29) ⌝ }
 {
     let t = products(a);
     let first = less(positive, 268435456, a);
@@ -91,7 +91,7 @@ pub fn reciprocal_series(positive: bool, a: u64) -> u64
 
 pub fn root_series(positive: bool, a: u64) -> u64
     requires { ⌜ a < 2 ^ 21 ⌝ }
-    ensures { λ r. ⌜ (r ≡ seriesOf 7 root positive a) × (r < 2 ^ 29) ⌝ }
+    ensures { λ r. ⌜ (r ≡ seriesOf 7 Root positive a) × (r < 2 ^ 29) ⌝ }
 {
     let t = products(a);
     let first = plus(positive, 549755813888, 1024 * a);
@@ -100,7 +100,7 @@ pub fn root_series(positive: bool, a: u64) -> u64
 
 pub fn inverse_root_series(positive: bool, a: u64) -> u64
     requires { ⌜ a < 2 ^ 21 ⌝ }
-    ensures { λ r. ⌜ (r ≡ seriesOf 7 inverseRoot positive a) × (r < 2 ^ 29) ⌝ }
+    ensures { λ r. ⌜ (r ≡ seriesOf 7 InverseRoot positive a) × (r < 2 ^ 29) ⌝ }
 {
     let t = products(a);
     let even = 549755813888 + 768 * t.square + 12 * t.cross;

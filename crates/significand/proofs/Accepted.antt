@@ -6,7 +6,8 @@ use Prim.Native.Nat.{ℕ, _^_, _≤_, _<_}
 use native.Mathlib.Omega.{arith}
 use mir.Facts.{and-yes, or-yes, leb-yes, ltb-yes, eqb-yes}
 use lib.Dec.{T, eqb, leb, ltb}
-use Rattle.kinds.specs.Operation.{Op, isOperation, opOf}
+use Rattle.kinds.specs.declared.Op.{Op}
+use Rattle.kinds.specs.Operation.{isOperation, opOf}
 use Rattle.kinds.specs.Question.{ask}
 use Rattle.kinds.proofs.Questions.{yes, reciprocal-named}
 use Rattle.significand.specs.Steps.{rawOf}

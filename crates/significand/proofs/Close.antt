@@ -4,7 +4,8 @@ use mathlib.Core.Bool.{Bool}
 use mathlib.Core.List.{[], _∷_}
 use Prim.Native.Nat.{ℕ, _+_, _*_, _-_, _≤_}
 use native.Mathlib.Omega.{arith}
-use Rattle.kinds.specs.Operation.{Op, reciprocal, root, inverseRoot}
+use Rattle.kinds.specs.declared.Op.{Op}
+use Rattle.kinds.specs.declared.Op.the-variants.{Reciprocal, Root, InverseRoot}
 use Rattle.numbers.proofs.Ring.{E, v, #, _⊕_, _⊗_, _⊙_⊑_, nlin}
 use Rattle.significand.proofs.Series.{Point, Summed, series-most, series-least, margin-small, whole-big}
 use Rattle.significand.proofs.Reciprocal.{recip-high, recip-low}
@@ -12,15 +13,15 @@ use Rattle.significand.proofs.Roots.{root-high, root-low, inverse-high,
 
 -- b is not too high: N² T / U + 6, √(N U / T) + 2, √(N³ T / U) + 2
 abbrev pub High : Op → ℕ → ℕ → ℕ → ℕ → Type 0
-High reciprocal N T U b = b * U ≤ N * N * T + 6 * U
-High root N T U b = T * ((b - 2) * (b - 2)) ≤ N * U
-High inverseRoot N T U b = U * ((b - 2) * (b - 2)) ≤ N * N * N * T
+High Reciprocal N T U b = b * U ≤ N * N * T + 6 * U
+High Root N T U b = T * ((b - 2) * (b - 2)) ≤ N * U
+High InverseRoot N T U b = U * ((b - 2) * (b - 2)) ≤ N * N * N * T
 
 -- and not too low: the same less 11, 2 and 4.5
 abbrev pub Low : Op → ℕ → ℕ → ℕ → ℕ → Type 0
-Low reciprocal N T U b = N * N * T ≤ b * U + 11 * U
-Low root N T U b = N * U ≤ T * ((b + 2) * (b + 2))
-Low inverseRoot N T U b = 4 * (N * N * N * T) ≤ U * ((2 * b + 9) * (2 * b + 9))
+Low Reciprocal N T U b = N * N * T ≤ b * U + 11 * U
+Low Root N T U b = N * U ≤ T * ((b + 2) * (b + 2))
+Low InverseRoot N T U b = 4 * (N * N * N * T) ≤ U * ((2 * b + 9) * (2 * b + 9))
 
 -- b is close to N, and to the exact series of U
 pub record Close (op : Op) (N T U b : ℕ) : Type 0 where
@@ -97,28 +98,28 @@ module _ (P : Point) (op : Op) (sign : Bool) (F : Summed op sign P) where
 
 pub series-close : (op : Op) (sign : Bool) (P : Point) (T U : ℕ) → T * P .W ≤ U → U ≤ T * (P .W + 1) → Summed op sign P
     → Close op (P .Z * P .Z * P .Z * P .Z) T U (P .b)
-series-close reciprocal sign P T U from upto F =
+series-close Reciprocal sign P T U from upto F =
     let N : ℕ = P .Z * P .Z * P .Z * P .Z in
     record {
-      most = close-most P reciprocal sign F;
-      least = close-least P reciprocal sign F;
+      most = close-most P Reciprocal sign F;
+      least = close-least P Reciprocal sign F;
       high = recip-up T U (P .W) N (P .b) from upto (recip-high P sign F);
       low = recip-down T U (P .W) N (P .b) from upto (recip-low P sign F);
     }
-series-close root sign P T U from upto F =
+series-close Root sign P T U from upto F =
     let N : ℕ = P .Z * P .Z * P .Z * P .Z in
     record {
-      most = close-most P root sign F;
-      least = close-least P root sign F;
-      high = root-up T U (P .W) N (P .b - 2) from upto (omega (arith, root-high P sign F, square-is P root sign F));
+      most = close-most P Root sign F;
+      least = close-least P Root sign F;
+      high = root-up T U (P .W) N (P .b - 2) from upto (omega (arith, root-high P sign F, square-is P Root sign F));
       low = root-down T U (P .W) N (P .b + 2) from upto (root-low P sign F);
     }
-series-close inverseRoot sign P T U from upto F =
+series-close InverseRoot sign P T U from upto F =
     let N : ℕ = P .Z * P .Z * P .Z * P .Z in
     record {
-      most = close-most P inverseRoot sign F;
-      least = close-least P inverseRoot sign F;
+      most = close-most P InverseRoot sign F;
+      least = close-least P InverseRoot sign F;
       high = inverse-up T U (P .W) N (P .b - 2) from upto
-          (omega (arith, inverse-high P sign F, ap (λ (m : ℕ). m * (P .W + 1)) (square-is P inverseRoot sign F)));
+          (omega (arith, inverse-high P sign F, ap (λ (m : ℕ). m * (P .W + 1)) (square-is P InverseRoot sign F)));
       low = inverse-down T U (P .W) N (2 * P .b + 9) from upto (inverse-low P sign F);
     }

@@ -5,7 +5,8 @@ use mathlib.Core.Bool.{Bool}
 use Prim.Native.Nat.{ℕ, _+_, _*_, _-_, _^_, _≤_, _<_}
 use native.Mathlib.Nat.{mul-sub}
 use native.Mathlib.Omega.{arith}
-use Rattle.kinds.specs.Operation.{Op, reciprocal, root, inverseRoot}
+use Rattle.kinds.specs.declared.Op.{Op}
+use Rattle.kinds.specs.declared.Op.the-variants.{Reciprocal, Root, InverseRoot}
 use Rattle.significand.specs.Steps.{indexOf, factorOf, signOf, reducedOf, seriesOf, multiplierOf, rawOf}
 use Rattle.significand.specs.Distance.{Significand, Over, Near, distanceOf}
 use Rattle.significand.proofs.Close.{Close, series-close}
@@ -45,9 +46,9 @@ module _ (op : Op) (k t y p : ℕ) (h : 7 ≤ k) (e : p ≤ 1) (Y : Significand 
 
 -- the distances promised are no less than those of the general law, and at most 12
 promised : (op : Op) → (reachOf op ≤ distanceOf op) × (distanceOf op ≤ 12)
-promised reciprocal = omega arith
-promised root = omega arith
-promised inverseRoot = omega arith
+promised Reciprocal = omega arith
+promised Root = omega arith
+promised InverseRoot = omega arith
 
 module _ (op : Op) (k t y p : ℕ) (h : 7 ≤ k) (e : p ≤ 1) (Y : Significand k t y) where
   abbrev g : ℕ
@@ -67,22 +68,22 @@ module _ (op : Op) (k t y p : ℕ) (h : 7 ≤ k) (e : p ≤ 1) (Y : Significand 
 
 -- The three by themselves, written out. Here m = 3k + t − 1.
 module _ (k t y : ℕ) (h : 7 ≤ k) (Y : Significand k t y) where
-  pub reciprocal-distance : let g : ℕ = rawOf k t reciprocal y 0 in
+  pub reciprocal-distance : let g : ℕ = rawOf k t Reciprocal y 0 in
       (g * y < 2 ^ (4 * k + (3 * k + t - 1)) + 12 * y) × (2 ^ (4 * k + (3 * k + t - 1)) < g * y + 12 * y)
   reciprocal-distance =
-      let g : ℕ = rawOf k t reciprocal y 0 in
-      let d : Near reciprocal k t y 0 12 g = distance reciprocal k t y 0 h (omega arith) Y in
+      let g : ℕ = rawOf k t Reciprocal y 0 in
+      let d : Near Reciprocal k t y 0 12 g = distance Reciprocal k t y 0 h (omega arith) Y in
       omega (arith, d .under, d .over, d .enough, mul-sub y g 12)
 
   module _ (p : ℕ) (e : p ≤ 1) where
-    pub root-distance : let g : ℕ = rawOf k t root y p in
+    pub root-distance : let g : ℕ = rawOf k t Root y p in
         (8 ≤ g) × ((g - 8) * (g - 8) * 2 ^ (3 * k + t - 1) < y * 2 ^ (8 * k + p)) × (y * 2 ^ (8 * k + p) < (g + 8) * (g + 8) * 2 ^ (3 * k + t - 1))
     root-distance =
-        let d : Near root k t y p 8 (rawOf k t root y p) = distance root k t y p h e Y in
+        let d : Near Root k t y p 8 (rawOf k t Root y p) = distance Root k t y p h e Y in
         (d .enough, d .under, d .over)
 
-    pub inverse-root-distance : let g : ℕ = rawOf k t inverseRoot y p in
+    pub inverse-root-distance : let g : ℕ = rawOf k t InverseRoot y p in
         (8 ≤ g) × ((g - 8) * (g - 8) * y * 2 ^ p < 2 ^ (8 * k + (3 * k + t - 1))) × (2 ^ (8 * k + (3 * k + t - 1)) < (g + 8) * (g + 8) * y * 2 ^ p)
     inverse-root-distance =
-        let d : Near inverseRoot k t y p 8 (rawOf k t inverseRoot y p) = distance inverseRoot k t y p h e Y in
+        let d : Near InverseRoot k t y p 8 (rawOf k t InverseRoot y p) = distance InverseRoot k t y p h e Y in
         (d .enough, d .under, d .over)

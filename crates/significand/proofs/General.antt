@@ -6,7 +6,8 @@ use Prim.Native.Nat.{ℕ, _+_, _*_, _-_, _/_, _^_, _≤_, _<_}
 use native.Mathlib.Nat.{div-mul-le-self, lt-div-mul-add, mul-sub}
 use native.Mathlib.Omega.{arith}
 use lib.Pow.{pow-pos}
-use Rattle.kinds.specs.Operation.{Op, reciprocal, root, inverseRoot}
+use Rattle.kinds.specs.declared.Op.{Op}
+use Rattle.kinds.specs.declared.Op.the-variants.{Reciprocal, Root, InverseRoot}
 use Rattle.numbers.proofs.Exponents.{power-of}
 use Rattle.significand.specs.Distance.{Significand, Under, Over, Near}
 use Rattle.significand.proofs.Close.{Close}
@@ -23,15 +24,15 @@ pub record InverseUnit (k r p M : ℕ) : Type 0 where
   pub high : r * 2 ^ (8 * k) < (M + 1) * (M + 1) * 2 ^ (k + 1 + p)
 
 abbrev pub Multiplies : Op → ℕ → ℕ → ℕ → ℕ → Type 0
-Multiplies reciprocal k r p M = M ≡ r * 2 ^ (3 * k - 1)
-Multiplies root k r p M = RootUnit k r p M
-Multiplies inverseRoot k r p M = InverseUnit k r p M
+Multiplies Reciprocal k r p M = M ≡ r * 2 ^ (3 * k - 1)
+Multiplies Root k r p M = RootUnit k r p M
+Multiplies InverseRoot k r p M = InverseUnit k r p M
 
 -- the distance that follows
 abbrev pub reachOf : Op → ℕ
-reachOf reciprocal = 12
-reachOf root = 7
-reachOf inverseRoot = 7
+reachOf Reciprocal = 12
+reachOf Root = 7
+reachOf InverseRoot = 7
 
 module _ (k r p M : ℕ) (h : 7 ≤ k) where
   abbrev Z : ℕ
@@ -70,9 +71,9 @@ module _ (k r p M : ℕ) (h : 7 ≤ k) where
       top = omega (arith, most, power-of (k + 1) (1 ∷ k ∷ []) (omega arith))
 
       go : (op : Op) → Multiplies op k r p M → M ≤ 2 * N
-      go reciprocal is = omega (arith, recip-multiplier Z N (2 ^ p) r M top (whole-is k) (recip-twice is))
-      go root near = root-multiplier Z N (2 ^ p) r M least (parity-most p e) (root-low near)
-      go inverseRoot near = omega (arith, inverse-multiplier Z N (2 ^ p) r M top (pow-pos p) (inverse-low near))
+      go Reciprocal is = omega (arith, recip-multiplier Z N (2 ^ p) r M top (whole-is k) (recip-twice is))
+      go Root near = root-multiplier Z N (2 ^ p) r M least (parity-most p e) (root-low near)
+      go InverseRoot near = omega (arith, inverse-multiplier Z N (2 ^ p) r M top (pow-pos p) (inverse-low near))
 
 module _ (k t y r p M b : ℕ) (h : 7 ≤ k) (e : p ≤ 1) (Y : Significand k t y) (least : 2 ^ k ≤ r) (most : r ≤ 2 ^ (k + 1)) where
   abbrev m : ℕ
@@ -89,24 +90,24 @@ module _ (k t y r p M b : ℕ) (h : 7 ≤ k) (e : p ≤ 1) (Y : Significand k t 
 
   -- g less its reach is under the exact value, and g more its reach is over it
   under : (op : Op) → Multiplies op k r p M → Close op (2 ^ (4 * k)) (2 ^ t) (y * r) b → Under op k m y p (g - reachOf op)
-  under reciprocal is C =
+  under Reciprocal is C =
       omega (arith, recip-under K F (recip-twice k r p M h is) C, quotient-scale k m, mul-sub y g 12, K .significand, pow-pos (4 * k + m))
-  under root near C =
+  under Root near C =
       rw square-scale (root-under K F (root-low k r p M h near) (root-high k r p M h near) C)
-  under inverseRoot near C =
+  under InverseRoot near C =
       rw square-scale (omega (arith, inverse-under K F (inverse-low k r p M h near) (inverse-high k r p M h near) C))
 
   over : (op : Op) → Multiplies op k r p M → Close op (2 ^ (4 * k)) (2 ^ t) (y * r) b → Over op k m y p (g + reachOf op)
-  over reciprocal is C = rw quotient-scale (recip-over K F (recip-twice k r p M h is) C)
-  over root near C =
+  over Reciprocal is C = rw quotient-scale (recip-over K F (recip-twice k r p M h is) C)
+  over Root near C =
       rw square-scale (root-over K F (root-low k r p M h near) (root-high k r p M h near) C)
-  over inverseRoot near C =
+  over InverseRoot near C =
       rw square-scale (omega (arith, inverse-over K F (inverse-low k r p M h near) (inverse-high k r p M h near) C))
 
   reach-small : (op : Op) → reachOf op ≤ 12
-  reach-small reciprocal = omega arith
-  reach-small root = omega arith
-  reach-small inverseRoot = omega arith
+  reach-small Reciprocal = omega arith
+  reach-small Root = omega arith
+  reach-small InverseRoot = omega arith
 
   -- the law: g is within its reach, for any such M and b
   pub general : (op : Op) → Multiplies op k r p M → Close op (2 ^ (4 * k)) (2 ^ t) (y * r) b → Near op k t y p (reachOf op) g

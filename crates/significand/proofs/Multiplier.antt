@@ -5,7 +5,8 @@ use Prim.Native.Nat.{ℕ, _+_, _*_, _^_, _≤_, _<_}
 use native.Mathlib.Nat.{mul-le-mul-left, mul-le-mul-right, mul-pos}
 use native.Mathlib.Omega.{arith}
 use lib.Pow.{pow-pos}
-use Rattle.kinds.specs.Operation.{Op, reciprocal, root, inverseRoot}
+use Rattle.kinds.specs.declared.Op.{Op}
+use Rattle.kinds.specs.declared.Op.the-variants.{Reciprocal, Root, InverseRoot}
 use Rattle.numbers.proofs.Exponents.{power-of}
 use Rattle.numbers.proofs.SquareRoot.{SquareRoot, greatest-square, before-square}
 use Rattle.significand.specs.Steps.{multiplierOf}
@@ -26,7 +27,7 @@ module _ (k r p : ℕ) (e : p ≤ 1) (least : 2 ^ k ≤ r) (most : r ≤ 2 ^ (k 
   square-positive : 0 < N * N
   square-positive = mul-pos (pow-pos (4 * k)) (pow-pos (4 * k))
 
-  pub root-is : SquareRoot r (2 ^ (9 * k + 1 + p)) (multiplierOf k root r p)
+  pub root-is : SquareRoot r (2 ^ (9 * k + 1 + p)) (multiplierOf k Root r p)
   unfolding multiplierOf
   root-is =
       greatest-square (4 * k + 2) r (2 ^ (9 * k + 1 + p)) (3 * N) three
@@ -39,7 +40,7 @@ module _ (k r p : ℕ) (e : p ≤ 1) (least : 2 ^ k ≤ r) (most : r ≤ 2 ^ (k 
         mul-le-mul-left (N * N) least,
       ))
 
-  pub inverse-is : SquareRoot (2 ^ (k + 1 + p)) (r * 2 ^ (8 * k)) (multiplierOf k inverseRoot r p)
+  pub inverse-is : SquareRoot (2 ^ (k + 1 + p)) (r * 2 ^ (8 * k)) (multiplierOf k InverseRoot r p)
   unfolding multiplierOf
   inverse-is =
       greatest-square (4 * k + 2) (2 ^ (k + 1 + p)) (r * 2 ^ (8 * k)) (3 * N) three
@@ -55,12 +56,12 @@ module _ (k r p : ℕ) (e : p ≤ 1) (least : 2 ^ k ≤ r) (most : r ≤ 2 ^ (k 
 
   pub multiplies : (op : Op) → Multiplies op k r p (multiplierOf k op r p)
   unfolding multiplierOf
-  multiplies reciprocal = refl
-  multiplies root =
-      record { low = before-square r (2 ^ (9 * k + 1 + p)) (multiplierOf k root r p) (omega (arith, least, pow-pos k)) (pow-pos (9 * k + 1 + p)) (root-is .fits); high = root-is .next }
-  multiplies inverseRoot =
+  multiplies Reciprocal = refl
+  multiplies Root =
+      record { low = before-square r (2 ^ (9 * k + 1 + p)) (multiplierOf k Root r p) (omega (arith, least, pow-pos k)) (pow-pos (9 * k + 1 + p)) (root-is .fits); high = root-is .next }
+  multiplies InverseRoot =
       record {
-        low = before-square (2 ^ (k + 1 + p)) (r * 2 ^ (8 * k)) (multiplierOf k inverseRoot r p) (pow-pos (k + 1 + p))
+        low = before-square (2 ^ (k + 1 + p)) (r * 2 ^ (8 * k)) (multiplierOf k InverseRoot r p) (pow-pos (k + 1 + p))
             (mul-pos (omega (arith, least, pow-pos k)) (pow-pos (8 * k))) (inverse-is .fits);
         high = inverse-is .next;
       }

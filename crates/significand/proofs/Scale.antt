@@ -6,7 +6,8 @@ use Prim.Native.Nat.{ℕ, _+_, _*_, _-_, _^_, _≤_, _<_}
 use native.Mathlib.Nat.{mul-le-mul, mul-le-mul-left, mul-le-mul-right, lt-of-mul-lt-mul-right}
 use native.Mathlib.Omega.{arith}
 use lib.Pow.{pow-pos, pow-mono}
-use Rattle.kinds.specs.Operation.{Op, reciprocal, root, inverseRoot}
+use Rattle.kinds.specs.declared.Op.{Op}
+use Rattle.kinds.specs.declared.Op.the-variants.{Reciprocal, Root, InverseRoot}
 use Rattle.numbers.proofs.Exponents.{power-of}
 use Rattle.numbers.proofs.Squares.{square-below}
 use Rattle.significand.specs.Distance.{Significand, Under, Over}
@@ -83,23 +84,23 @@ module _ (k t y p x : ℕ) (h : 7 ≤ k) (e : p ≤ 1) (Y : Significand k t y) w
   radicand = ap (λ (n : ℕ). y * n) (square-scale k p)
 
   pub over-least : (op : Op) → Over op k (3 * k + t - 1) y p x → N < 2 * x
-  over-least reciprocal o = lt-of-mul-lt-mul-right P (omega (arith, quotient-scale k m, mul-le-mul-left x top, o))
-  over-least root o =
+  over-least Reciprocal o = lt-of-mul-lt-mul-right P (omega (arith, quotient-scale k m, mul-le-mul-left x top, o))
+  over-least Root o =
       let i : N * N * P < x * x * P =
       omega (arith, radicand, mul-le-mul-left (N * N) (Y .least), mul-le-mul-left (N * N * y) (pow-pos p), o) in
       omega (arith, square-below N x (lt-of-mul-lt-mul-right P i))
-  over-least inverseRoot o =
+  over-least InverseRoot o =
       let i : N * N * P < 2 * x * (2 * x) * P =
       omega (arith, square-scale k m, mul-le-mul-left (2 * x * x) top, mul-le-mul-left (x * x * y) (parity-most p e), o) in
       square-below N (2 * x) (lt-of-mul-lt-mul-right P i)
 
 -- what is less than a number under the exact value is under it too, and what is more than one over it is over it
 pub under-less : (op : Op) (k m y p x z : ℕ) → z ≤ x → Under op k m y p x → Under op k m y p z
-under-less reciprocal k m y p x z l u = omega (arith, mul-le-mul-right y l)
-under-less root k m y p x z l u = omega (arith, mul-le-mul-right (2 ^ m) (mul-le-mul l l))
-under-less inverseRoot k m y p x z l u = omega (arith, mul-le-mul-right (2 ^ p) (mul-le-mul-right y (mul-le-mul l l)))
+under-less Reciprocal k m y p x z l u = omega (arith, mul-le-mul-right y l)
+under-less Root k m y p x z l u = omega (arith, mul-le-mul-right (2 ^ m) (mul-le-mul l l))
+under-less InverseRoot k m y p x z l u = omega (arith, mul-le-mul-right (2 ^ p) (mul-le-mul-right y (mul-le-mul l l)))
 
 pub over-more : (op : Op) (k m y p x z : ℕ) → x ≤ z → Over op k m y p x → Over op k m y p z
-over-more reciprocal k m y p x z l o = omega (arith, mul-le-mul-right y l)
-over-more root k m y p x z l o = omega (arith, mul-le-mul-right (2 ^ m) (mul-le-mul l l))
-over-more inverseRoot k m y p x z l o = omega (arith, mul-le-mul-right (2 ^ p) (mul-le-mul-right y (mul-le-mul l l)))
+over-more Reciprocal k m y p x z l o = omega (arith, mul-le-mul-right y l)
+over-more Root k m y p x z l o = omega (arith, mul-le-mul-right (2 ^ m) (mul-le-mul l l))
+over-more InverseRoot k m y p x z l o = omega (arith, mul-le-mul-right (2 ^ p) (mul-le-mul-right y (mul-le-mul l l)))

@@ -5,7 +5,8 @@ use mathlib.Core.Bool.{Bool, true, false}
 use mathlib.Core.List.{List, [], _∷_}
 use Prim.Native.Nat.{ℕ, _+_, _*_, _-_, _≤_, _<_}
 use native.Mathlib.Omega.{arith}
-use Rattle.kinds.specs.Operation.{Op, reciprocal, root, inverseRoot}
+use Rattle.kinds.specs.declared.Op.{Op}
+use Rattle.kinds.specs.declared.Op.the-variants.{Reciprocal, Root, InverseRoot}
 use Rattle.numbers.proofs.Ring.{E, v, #, _⊕_, _⊗_, ev, nf, H, _⊙_⊑_, lows, highs, Hold, Left, nlin, nlin×, prove}
 
 -- the radix Z, the digits a2, a3, a4 of a, the carry h, the series b, W, which is N + a or N − a − 1, and the sum S
@@ -65,26 +66,26 @@ fall false = x ⊕ # 1
 
 -- what each sum adds, and what it takes away
 abbrev pub gains : Op → Bool → E
-gains reciprocal true = z ⊗ (n ⊕ x2 ⊗ x2) ⊕ # 2 ⊗ x2 ⊗ x3
-gains reciprocal false = z ⊗ (n ⊕ x ⊕ x2 ⊗ x2) ⊕ # 2 ⊗ x2 ⊗ x3 ⊕ y ⊗ x2
-gains root true = # 16 ⊗ z ⊗ n ⊕ # 8 ⊗ z ⊗ x ⊕ y ⊗ x2
-gains root false = # 16 ⊗ z ⊗ n
-gains inverseRoot true = # 16 ⊗ z ⊗ n ⊕ # 6 ⊗ z ⊗ x2 ⊗ x2 ⊕ # 12 ⊗ x2 ⊗ x3
-gains inverseRoot false = # 16 ⊗ z ⊗ n ⊕ # 8 ⊗ z ⊗ x ⊕ # 6 ⊗ z ⊗ x2 ⊗ x2 ⊕ # 12 ⊗ x2 ⊗ x3 ⊕ # 5 ⊗ y ⊗ x2
+gains Reciprocal true = z ⊗ (n ⊕ x2 ⊗ x2) ⊕ # 2 ⊗ x2 ⊗ x3
+gains Reciprocal false = z ⊗ (n ⊕ x ⊕ x2 ⊗ x2) ⊕ # 2 ⊗ x2 ⊗ x3 ⊕ y ⊗ x2
+gains Root true = # 16 ⊗ z ⊗ n ⊕ # 8 ⊗ z ⊗ x ⊕ y ⊗ x2
+gains Root false = # 16 ⊗ z ⊗ n
+gains InverseRoot true = # 16 ⊗ z ⊗ n ⊕ # 6 ⊗ z ⊗ x2 ⊗ x2 ⊕ # 12 ⊗ x2 ⊗ x3
+gains InverseRoot false = # 16 ⊗ z ⊗ n ⊕ # 8 ⊗ z ⊗ x ⊕ # 6 ⊗ z ⊗ x2 ⊗ x2 ⊕ # 12 ⊗ x2 ⊗ x3 ⊕ # 5 ⊗ y ⊗ x2
 
 abbrev pub losses : Op → Bool → E
-losses reciprocal true = z ⊗ x ⊕ y ⊗ x2
-losses reciprocal false = # 0
-losses root true = # 2 ⊗ z ⊗ x2 ⊗ x2 ⊕ # 4 ⊗ x2 ⊗ x3
-losses root false = # 8 ⊗ z ⊗ x ⊕ # 2 ⊗ z ⊗ x2 ⊗ x2 ⊕ # 4 ⊗ x2 ⊗ x3 ⊕ y ⊗ x2
-losses inverseRoot true = # 8 ⊗ z ⊗ x ⊕ # 5 ⊗ y ⊗ x2
-losses inverseRoot false = # 0
+losses Reciprocal true = z ⊗ x ⊕ y ⊗ x2
+losses Reciprocal false = # 0
+losses Root true = # 2 ⊗ z ⊗ x2 ⊗ x2 ⊕ # 4 ⊗ x2 ⊗ x3
+losses Root false = # 8 ⊗ z ⊗ x ⊕ # 2 ⊗ z ⊗ x2 ⊗ x2 ⊕ # 4 ⊗ x2 ⊗ x3 ⊕ y ⊗ x2
+losses InverseRoot true = # 8 ⊗ z ⊗ x ⊕ # 5 ⊗ y ⊗ x2
+losses InverseRoot false = # 0
 
 -- what the sum is divided by
 abbrev pub divisor : Op → E
-divisor reciprocal = z
-divisor root = # 16 ⊗ z
-divisor inverseRoot = # 16 ⊗ z
+divisor Reciprocal = z
+divisor Root = # 16 ⊗ z
+divisor InverseRoot = # 16 ⊗ z
 
 -- the digits are below Z, and h is a2² / Z, floored
 pub record Digits (P : Point) : Type 0 where
@@ -154,25 +155,25 @@ abbrev by-least : Op → Bool → List H
 by-least op sign = # 1 ⊙ s ⊑ divisor op ⊗ q ⊕ divisor op ∷ # 1 ⊙ gains op sign ⊑ s ⊕ losses op sign ∷ []
 
 most-passes : (op : Op) (sign : Bool) → Passes (divisor op) (by-most op sign) q (n ⊕ margin)
-most-passes reciprocal true = tt
-most-passes reciprocal false = tt
-most-passes root true = tt
-most-passes root false = tt
-most-passes inverseRoot true = tt
-most-passes inverseRoot false = tt
+most-passes Reciprocal true = tt
+most-passes Reciprocal false = tt
+most-passes Root true = tt
+most-passes Root false = tt
+most-passes InverseRoot true = tt
+most-passes InverseRoot false = tt
 
 least-passes : (op : Op) (sign : Bool) → Passes (divisor op) (by-least op sign) n (q ⊕ margin)
-least-passes reciprocal true = tt
-least-passes reciprocal false = tt
-least-passes root true = tt
-least-passes root false = tt
-least-passes inverseRoot true = tt
-least-passes inverseRoot false = tt
+least-passes Reciprocal true = tt
+least-passes Reciprocal false = tt
+least-passes Root true = tt
+least-passes Root false = tt
+least-passes InverseRoot true = tt
+least-passes InverseRoot false = tt
 
 divisor-positive : (P : Point) (op : Op) → 128 ≤ P .Z → 0 < ev (env P) (divisor op)
-divisor-positive P reciprocal big = omega arith
-divisor-positive P root big = omega arith
-divisor-positive P inverseRoot big = omega arith
+divisor-positive P Reciprocal big = omega arith
+divisor-positive P Root big = omega arith
+divisor-positive P InverseRoot big = omega arith
 
 module _ (P : Point) (op : Op) (sign : Bool) (F : Summed op sign P) where
   pub series-most : ev (env P) q ≤ ev (env P) (n ⊕ margin)

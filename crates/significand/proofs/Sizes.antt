@@ -1,7 +1,7 @@
 -- The sizes of R, a and M at k = 7 and t = 3, by which all that the steps work out fits 64 bits. Assumes nothing.
 use Prim.Native.Nat.{ℕ, _+_, _*_, _^_, _≤_, _<_}
 use native.Mathlib.Omega.{arith}
-use Rattle.kinds.specs.Operation.{Op}
+use Rattle.kinds.specs.declared.Op.{Op}
 use Rattle.significand.specs.Steps.{indexOf, factorOf, reducedOf, multiplierOf}
 use Rattle.significand.specs.Distance.{Significand}
 use Rattle.significand.proofs.General.{multiplier-most}

@@ -6,7 +6,8 @@ use Prim.Native.Nat.{ℕ, _+_, _*_, _-_, _/_, _^_, _≤_, _<_}
 use native.Mathlib.Nat.{mul-div-le, lt-mul-div-succ, div-add-mod', mod-lt, le-of-mul-le-mul-left}
 use native.Mathlib.Omega.{arith}
 use lib.Pow.{pow-pos, pow-mono, shr-lt, shr-shr}
-use Rattle.kinds.specs.Operation.{Op, reciprocal, root, inverseRoot}
+use Rattle.kinds.specs.declared.Op.{Op}
+use Rattle.kinds.specs.declared.Op.the-variants.{Reciprocal, Root, InverseRoot}
 use Rattle.numbers.proofs.Ring.{E, #, _⊕_, _⊗_, ev}
 use Rattle.significand.specs.Steps.{digit2, digit3, digit4, carryOf, sumOver, sumOf, divisorOf, seriesOf}
 use Rattle.significand.proofs.Series.{Point, env, z, q, w, n, gains, losses, divisor, rise, fall, Digits, Summed, Passes, by-tops}
@@ -52,17 +53,17 @@ module _ (k a : ℕ) where
 
 -- what a sum takes away is no more than its first term
 abbrev first : Op → E
-first reciprocal = z ⊗ n
-first root = # 16 ⊗ z ⊗ n
-first inverseRoot = # 16 ⊗ z ⊗ n
+first Reciprocal = z ⊗ n
+first Root = # 16 ⊗ z ⊗ n
+first InverseRoot = # 16 ⊗ z ⊗ n
 
 covered : (op : Op) (sign : Bool) → Passes (# 1) [] (losses op sign) (first op)
-covered reciprocal true = tt
-covered reciprocal false = tt
-covered root true = tt
-covered root false = tt
-covered inverseRoot true = tt
-covered inverseRoot false = tt
+covered Reciprocal true = tt
+covered Reciprocal false = tt
+covered Root true = tt
+covered Root false = tt
+covered InverseRoot true = tt
+covered InverseRoot false = tt
 
 module _ (k a a2 a3 a4 h b W S : ℕ) where
   abbrev P : Point
@@ -80,18 +81,18 @@ module _ (k a a2 a3 a4 h b W S : ℕ) where
     scaled-n = ap (λ (m : ℕ). 2 ^ k * m) (whole-is k)
 
     added-up : (op : Op) (sign : Bool) → sumOver k op sign a a2 a3 h + ev (env P) (losses op sign) ≡ ev (env P) (gains op sign)
-    added-up reciprocal true =
-        let most : a ≤ 2 ^ (4 * k) = le-of-mul-le-mul-left (omega (arith, fits reciprocal true, scaled-a, scaled-n)) (pow-pos k) in
+    added-up Reciprocal true =
+        let most : a ≤ 2 ^ (4 * k) = le-of-mul-le-mul-left (omega (arith, fits Reciprocal true, scaled-a, scaled-n)) (pow-pos k) in
         go (2 ^ (4 * k) - a) (omega arith)
       where
         go : (d : ℕ) → d + a ≡ 2 ^ (4 * k)
-            → 2 ^ k * (d + a2 * a2) + 2 * a2 * a3 - h * a2 + ev (env P) (losses reciprocal true) ≡ ev (env P) (gains reciprocal true)
-        go d e = omega (arith, fits reciprocal true, scaled-a, scaled-n, ap (λ (m : ℕ). 2 ^ k * m) e)
-    added-up reciprocal false = omega (arith, scaled-a, scaled-n)
-    added-up root true = omega (arith, fits root true, scaled-a, scaled-n)
-    added-up root false = omega (arith, fits root false, scaled-a, scaled-n)
-    added-up inverseRoot true = omega (arith, fits inverseRoot true, scaled-a, scaled-n)
-    added-up inverseRoot false = omega (arith, scaled-a, scaled-n)
+            → 2 ^ k * (d + a2 * a2) + 2 * a2 * a3 - h * a2 + ev (env P) (losses Reciprocal true) ≡ ev (env P) (gains Reciprocal true)
+        go d e = omega (arith, fits Reciprocal true, scaled-a, scaled-n, ap (λ (m : ℕ). 2 ^ k * m) e)
+    added-up Reciprocal false = omega (arith, scaled-a, scaled-n)
+    added-up Root true = omega (arith, fits Root true, scaled-a, scaled-n)
+    added-up Root false = omega (arith, fits Root false, scaled-a, scaled-n)
+    added-up InverseRoot true = omega (arith, fits InverseRoot true, scaled-a, scaled-n)
+    added-up InverseRoot false = omega (arith, scaled-a, scaled-n)
 
 -- b is the sum over its divisor, floored
 module _ (k a2 a3 a4 h W S : ℕ) where
@@ -99,14 +100,14 @@ module _ (k a2 a3 a4 h W S : ℕ) where
   at op = record { Z = 2 ^ k; a2 = a2; a3 = a3; a4 = a4; h = h; b = S / divisorOf k op; W = W; S = S }
 
   floor-low : (op : Op) → ev (env (at op)) (divisor op ⊗ q) ≤ S
-  floor-low reciprocal = mul-div-le S (2 ^ k)
-  floor-low root = mul-div-le S (16 * 2 ^ k)
-  floor-low inverseRoot = mul-div-le S (16 * 2 ^ k)
+  floor-low Reciprocal = mul-div-le S (2 ^ k)
+  floor-low Root = mul-div-le S (16 * 2 ^ k)
+  floor-low InverseRoot = mul-div-le S (16 * 2 ^ k)
 
   floor-high : (op : Op) → S < ev (env (at op)) (divisor op ⊗ q ⊕ divisor op)
-  floor-high reciprocal = omega (arith, lt-mul-div-succ S {b = 2 ^ k} (pow-pos k))
-  floor-high root = omega (arith, lt-mul-div-succ S {b = 16 * 2 ^ k} (omega (arith, pow-pos k)))
-  floor-high inverseRoot = omega (arith, lt-mul-div-succ S {b = 16 * 2 ^ k} (omega (arith, pow-pos k)))
+  floor-high Reciprocal = omega (arith, lt-mul-div-succ S {b = 2 ^ k} (pow-pos k))
+  floor-high Root = omega (arith, lt-mul-div-succ S {b = 16 * 2 ^ k} (omega (arith, pow-pos k)))
+  floor-high InverseRoot = omega (arith, lt-mul-div-succ S {b = 16 * 2 ^ k} (omega (arith, pow-pos k)))
 
 module _ (k a : ℕ) (h : 7 ≤ k) (below : a < 2 ^ (3 * k)) (op : Op) where
   -- A sum, and what it takes away, are together what it adds: no subtraction in it has cut anything off.

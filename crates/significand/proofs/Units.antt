@@ -5,7 +5,7 @@ use mathlib.Core.List.{[], _∷_}
 use Prim.Native.Nat.{ℕ, _+_, _*_, _-_, _≤_, _<_}
 use native.Mathlib.Nat.{mul-le-mul, mul-le-mul-left, mul-le-mul-right, mul-sub, mul-pos, lt-of-mul-lt-mul-left}
 use native.Mathlib.Omega.{arith}
-use Rattle.kinds.specs.Operation.{reciprocal, root, inverseRoot}
+use Rattle.kinds.specs.declared.Op.the-variants.{Reciprocal, Root, InverseRoot}
 use Rattle.numbers.proofs.Ring.{E, v, #, _⊕_, _⊗_, _⊙_⊑_, nlin, nlin×}
 use Rattle.numbers.proofs.Products.{cancel-lt, squares-below, squares-above}
 use Rattle.numbers.proofs.Squares.{square-below}
@@ -101,7 +101,7 @@ module _ {Z N T P X y R M b g : ℕ} (K : Setting Z N T P X y R) (F : Floored N 
     root-top : M ≤ 2 * N
     root-top = root-multiplier Z N X R M (K .factor-least) (K .parity-most) low
 
-    module _ (C : Close root N T (y * R) b) where
+    module _ (C : Close Root N T (y * R) b) where
       positive : 0 < N * (y * R)
       positive = mul-pos (omega arith) (mul-pos (K .significand) (omega arith))
 
@@ -126,7 +126,7 @@ module _ {Z N T P X y R M b g : ℕ} (K : Setting Z N T P X y R) (F : Floored N 
     inverse-top : M ≤ N
     inverse-top = inverse-multiplier Z N X R M (K .factor-most) (K .parity-least) low
 
-    module _ (C : Close inverseRoot N T (y * R) b) where
+    module _ (C : Close InverseRoot N T (y * R) b) where
       exact-positive : 0 < N * N * N * T
       exact-positive = mul-pos (mul-pos (mul-pos (omega arith) (omega arith)) (omega arith)) (K .unit)
 
@@ -153,7 +153,7 @@ module _ {Z N T P X y R M b g : ℕ} (K : Setting Z N T P X y R) (F : Floored N 
     recip-top : M ≤ N
     recip-top = recip-multiplier Z N X R M (K .factor-most) (K .whole) exactly
 
-    module _ (C : Close reciprocal N T (y * R) b) where
+    module _ (C : Close Reciprocal N T (y * R) b) where
       pub recip-under : g * y ≤ N * P + 6 * y
       recip-under =
           nlin× (Z ∷ N ∷ T ∷ P ∷ y ∷ R ∷ M ∷ b ∷ g ∷ []) (# 2 ⊗ N′)

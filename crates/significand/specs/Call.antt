@@ -2,7 +2,8 @@
 use Prim.Native.Nat.{ℕ, _+_, _*_, _-_, _^_}
 use mathlib.Core.Bool.{Bool, cond, not, _&&_, _||_}
 use lib.Dec.{leb, ltb, eqb}
-use Rattle.kinds.specs.Operation.{Op, isOperation, opOf, isReciprocal}
+use Rattle.kinds.specs.declared.Op.{Op}
+use Rattle.kinds.specs.Operation.{isOperation, opOf, isReciprocal}
 use Rattle.kinds.specs.Question.{ask}
 use Rattle.significand.specs.Steps.{rawOf}
 

@@ -1,7 +1,8 @@
 -- How far an answer g may be from 2^(4k) times the exact value, said by products and squares of whole numbers. Assumes nothing.
 -- The significand y stands for Y = y / 2^m, m = 3k + t − 1, and the exact values are 1 / Y, √(2^p·Y) and 1 / √(2^p·Y).
 use Prim.Native.Nat.{ℕ, _+_, _*_, _-_, _^_, _≤_, _<_}
-use Rattle.kinds.specs.Operation.{Op, reciprocal, root, inverseRoot}
+use Rattle.kinds.specs.declared.Op.{Op}
+use Rattle.kinds.specs.declared.Op.the-variants.{Reciprocal, Root, InverseRoot}
 
 -- y has 3k + t bits [8,388,608 to 16,777,215]
 pub record Significand (k t y : ℕ) : Type 0 where
@@ -10,15 +11,15 @@ pub record Significand (k t y : ℕ) : Type 0 where
 
 -- x is below 2^(4k) times the exact value
 abbrev pub Under : Op → ℕ → ℕ → ℕ → ℕ → ℕ → Type 0
-Under reciprocal k m y p x = x * y < 2 ^ (4 * k + m)
-Under root k m y p x = x * x * 2 ^ m < y * 2 ^ (8 * k + p)
-Under inverseRoot k m y p x = x * x * y * 2 ^ p < 2 ^ (8 * k + m)
+Under Reciprocal k m y p x = x * y < 2 ^ (4 * k + m)
+Under Root k m y p x = x * x * 2 ^ m < y * 2 ^ (8 * k + p)
+Under InverseRoot k m y p x = x * x * y * 2 ^ p < 2 ^ (8 * k + m)
 
 -- x is above it
 abbrev pub Over : Op → ℕ → ℕ → ℕ → ℕ → ℕ → Type 0
-Over reciprocal k m y p x = 2 ^ (4 * k + m) < x * y
-Over root k m y p x = y * 2 ^ (8 * k + p) < x * x * 2 ^ m
-Over inverseRoot k m y p x = 2 ^ (8 * k + m) < x * x * y * 2 ^ p
+Over Reciprocal k m y p x = 2 ^ (4 * k + m) < x * y
+Over Root k m y p x = y * 2 ^ (8 * k + p) < x * x * 2 ^ m
+Over InverseRoot k m y p x = 2 ^ (8 * k + m) < x * x * y * 2 ^ p
 
 -- g is less than d away from it
 pub record Near (op : Op) (k t y p d g : ℕ) : Type 0 where
@@ -28,6 +29,6 @@ pub record Near (op : Op) (k t y p d g : ℕ) : Type 0 where
 
 -- the distances: under 12, 8 and 8 units of 1 / 2^(4k) [1 / 268,435,456]
 abbrev pub distanceOf : Op → ℕ
-distanceOf reciprocal = 12
-distanceOf root = 8
-distanceOf inverseRoot = 8
+distanceOf Reciprocal = 12
+distanceOf Root = 8
+distanceOf InverseRoot = 8

@@ -3,7 +3,8 @@
 use Prim.Native.Nat.{ℕ, _+_, _*_, _-_, _/_, _%_, _^_}
 use mathlib.Core.Bool.{Bool, true, false}
 use lib.Dec.{leb}
-use Rattle.kinds.specs.Operation.{Op, reciprocal, root, inverseRoot}
+use Rattle.kinds.specs.declared.Op.{Op}
+use Rattle.kinds.specs.declared.Op.the-variants.{Reciprocal, Root, InverseRoot}
 use Rattle.numbers.specs.Greatest.{greatest}
 
 -- x + s·y and x − s·y, the sign s being +1 where the Bool is true and −1 where it is false
@@ -49,11 +50,11 @@ carryOf k a2 = a2 * a2 / 2 ^ k
 
 -- 3. the sum of each series, over the sign s, a, a2, a3 and h, before its division
 abbrev pub sumOver : ℕ → Op → Bool → ℕ → ℕ → ℕ → ℕ → ℕ
-sumOver k reciprocal s a a2 a3 h =
+sumOver k Reciprocal s a a2 a3 h =
     less s (2 ^ k * (less s (2 ^ (4 * k)) a + a2 * a2) + 2 * a2 * a3) (h * a2)
-sumOver k root s a a2 a3 h =
+sumOver k Root s a a2 a3 h =
     plus s (plus s (16 * 2 ^ k * 2 ^ (4 * k)) (8 * 2 ^ k * a) - 2 * 2 ^ k * a2 * a2 - 4 * a2 * a3) (h * a2)
-sumOver k inverseRoot s a a2 a3 h =
+sumOver k InverseRoot s a a2 a3 h =
     less s (less s (16 * 2 ^ k * 2 ^ (4 * k)) (8 * 2 ^ k * a) + 6 * 2 ^ k * a2 * a2 + 12 * a2 * a3) (5 * h * a2)
 
 unfoldable pub sumOf : ℕ → Op → Bool → ℕ → ℕ
@@ -61,9 +62,9 @@ sumOf k op s a = sumOver k op s a (digit2 k a) (digit3 k a) (carryOf k (digit2 k
 
 -- what it is divided by [128 and 2,048]
 abbrev pub divisorOf : ℕ → Op → ℕ
-divisorOf k reciprocal = 2 ^ k
-divisorOf k root = 16 * 2 ^ k
-divisorOf k inverseRoot = 16 * 2 ^ k
+divisorOf k Reciprocal = 2 ^ k
+divisorOf k Root = 16 * 2 ^ k
+divisorOf k InverseRoot = 16 * 2 ^ k
 
 -- the series b
 abbrev pub seriesOf : ℕ → Op → Bool → ℕ → ℕ
@@ -72,9 +73,9 @@ seriesOf k op s a = sumOf k op s a / divisorOf k op
 -- 4. M by R and the parity p. Root: the largest whole w with w² × R ≤ 2^(9k + 1 + p) [64 + p];
 -- inverse root: the largest whole w with w² × 2^(k + 1 + p) ≤ R × 2^(8k) [8 + p, 56]
 unfoldable pub multiplierOf : ℕ → Op → ℕ → ℕ → ℕ
-multiplierOf k reciprocal r p = r * 2 ^ (3 * k - 1)
-multiplierOf k root r p = greatest (4 * k + 2) (λ (w : ℕ). leb (w * w * r) (2 ^ (9 * k + 1 + p)))
-multiplierOf k inverseRoot r p = greatest (4 * k + 2) (λ (w : ℕ). leb (w * w * 2 ^ (k + 1 + p)) (r * 2 ^ (8 * k)))
+multiplierOf k Reciprocal r p = r * 2 ^ (3 * k - 1)
+multiplierOf k Root r p = greatest (4 * k + 2) (λ (w : ℕ). leb (w * w * r) (2 ^ (9 * k + 1 + p)))
+multiplierOf k InverseRoot r p = greatest (4 * k + 2) (λ (w : ℕ). leb (w * w * 2 ^ (k + 1 + p)) (r * 2 ^ (8 * k)))
 
 -- 5. g is M × b over 2^(4k), floored [2^28]
 unfoldable pub rawOf : ℕ → ℕ → Op → ℕ → ℕ → ℕ

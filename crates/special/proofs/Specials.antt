@@ -7,7 +7,9 @@ use native.Mathlib.Decide.{decLt, ℕ-discrete}
 use native.Mathlib.Omega.{arith}
 use borrow.Author.Tests.{lt-ltb, le-ltb, le-leb, lt-leb, eq-eqb, ne-eqb}
 use lib.Dec.{eqb, ltb, leb}
-use Rattle.kinds.specs.Operation.{Op, inverseRoot, opOf, isReciprocal}
+use Rattle.kinds.specs.declared.Op.{Op}
+use Rattle.kinds.specs.declared.Op.the-variants.{InverseRoot}
+use Rattle.kinds.specs.Operation.{opOf, isReciprocal}
 use Rattle.kinds.specs.Flag.{invalid}
 use Rattle.kinds.proofs.Questions.{reciprocal-named}
 use Rattle.ieee.specs.Format.{binary32, infinity, quietNaN}
@@ -115,7 +117,7 @@ module _ (x : Parts) (h : Ranges x) where
       rw (e, ei, er, ea, en, ee, ez) (in-order (opOf n) (eqb n 1) (sym (reciprocal-named n)))
 
 -- which operation it is, by its number
-op-inverse : (n : ℕ) → (n ≡ 1 → ⊥) → (n ≡ 2 → ⊥) → opOf n ≡ inverseRoot
+op-inverse : (n : ℕ) → (n ≡ 1 → ⊥) → (n ≡ 2 → ⊥) → opOf n ≡ InverseRoot
 op-inverse n p q = simp (ne-eqb n 1 p, ne-eqb n 2 q)
 
 by-operation : (P : ℕ → Type 0) (n : ℕ) → P 1 → P 2 → ((n ≡ 1 → ⊥) → (n ≡ 2 → ⊥) → P n) → P n

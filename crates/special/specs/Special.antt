@@ -2,7 +2,8 @@
 use mathlib.Core.Bool.{Bool, cond, not, _&&_, _||_}
 use Prim.Native.Nat.{ℕ}
 use lib.Dec.{eqb, ltb, leb}
-use Rattle.kinds.specs.Operation.{Op, isReciprocal}
+use Rattle.kinds.specs.declared.Op.{Op}
+use Rattle.kinds.specs.Operation.{isReciprocal}
 use Rattle.kinds.specs.Flag.{invalid}
 use Rattle.ieee.specs.Format.{binary32, infinity, quietNaN}
 use Rattle.ieee.specs.Answer.{Answer, answer, toNaN, toZero, toInfinity}

@@ -1,7 +1,7 @@
 -- `roots::root_odd` meets its contract: the whole table passes one test. Assumes nothing.
 use Prim.Native.Nat.{ℕ}
 use borrow.Fn.Plain.{t-fn-plain}
-use Rattle.kinds.specs.Operation.{root}
+use Rattle.kinds.specs.declared.Op.the-variants.{Root}
 use Rattle.numbers.specs.Greatest.{greatest, greatestFrom}
 use Rattle.significand.specs.Steps.{factorOf, multiplierOf}
 use Rattle.tables.proofs.Match.{table, looked-up}
@@ -11,7 +11,7 @@ use Rattle.roots.proofs.root_odd.Reads as reads
 use Rattle.roots.proofs.root_odd.Lts as lts
 
 rule : ℕ → ℕ
-rule i = multiplierOf 7 root (factorOf 7 i) 1
+rule i = multiplierOf 7 Root (factorOf 7 i) 1
 
 pub root-odd-spec : {M : Type 1} → statement M
 unfolding rule factorOf multiplierOf greatest greatestFrom

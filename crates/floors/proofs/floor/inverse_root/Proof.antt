@@ -1,7 +1,7 @@
 -- `floors::floor::inverse_root` meets its contract: the start is at or below the floor, and two steps lead to it. Assumes nothing.
 use native.Mathlib.Omega.{arith}
 use borrow.Author.Needs.{needs}
-use Rattle.kinds.specs.Operation.{inverseRoot}
+use Rattle.kinds.specs.declared.Op.the-variants.{InverseRoot}
 use Rattle.floors.proofs.Reaching.{fits-product, start-small, inverse-root-reached}
 use Rattle.floors.proofs.floor.inverse_root.Statement.{statement}
 use Rattle.floors.proofs.floor.inverse_root.Tie as tie
@@ -10,7 +10,7 @@ sub-q : tie.Need-sub-q
 sub-q c = search needs
 
 remainder-requires : tie.Need-remainder-requires
-remainder-requires c κs = let a = c .args in let p = c .pre in omega (arith, start-small inverseRoot (a .y) (a .p) (a .g) (p .0) (p .1) (p .2) (p .4))
+remainder-requires c κs = let a = c .args in let p = c .pre in omega (arith, start-small InverseRoot (a .y) (a .p) (a .g) (p .0) (p .1) (p .2) (p .4))
 
 mul-step : tie.Need-mul-step
 mul-step c = search needs
@@ -19,7 +19,7 @@ add-step : tie.Need-add-step
 add-step c = search needs
 
 mul-step-2 : tie.Need-mul-step-2
-mul-step-2 c = let a = c .before .args in let p = c .before .pre in fits-product 27 24 (omega (arith, start-small inverseRoot (a .y) (a .p) (a .g) (p .0) (p .1) (p .2) (p .4))) (search needs) (search needs)
+mul-step-2 c = let a = c .before .args in let p = c .before .pre in fits-product 27 24 (omega (arith, start-small InverseRoot (a .y) (a .p) (a .g) (p .0) (p .1) (p .2) (p .4))) (search needs) (search needs)
 
 step-requires : tie.Need-step-requires
 step-requires c κs = search needs
@@ -31,7 +31,7 @@ add-step-2 : tie.Need-add-step-2
 add-step-2 c = search needs
 
 mul-step-4 : tie.Need-mul-step-4
-mul-step-4 c = let a = c .before .before .args in let p = c .before .before .pre in fits-product 27 24 (omega (arith, start-small inverseRoot (a .y) (a .p) (a .g) (p .0) (p .1) (p .2) (p .4))) (search needs) (search needs)
+mul-step-4 c = let a = c .before .before .args in let p = c .before .before .pre in fits-product 27 24 (omega (arith, start-small InverseRoot (a .y) (a .p) (a .g) (p .0) (p .1) (p .2) (p .4))) (search needs) (search needs)
 
 step-requires-2 : tie.Need-step-requires-2
 step-requires-2 c κs = search needs

@@ -1,7 +1,7 @@
 -- `floors::floor::reciprocal` meets its contract: the start is at or below the floor, and three steps lead to it. Assumes nothing.
 use native.Mathlib.Omega.{arith}
 use borrow.Author.Needs.{needs}
-use Rattle.kinds.specs.Operation.{reciprocal}
+use Rattle.kinds.specs.declared.Op.the-variants.{Reciprocal}
 use Rattle.floors.proofs.Reaching.{started-low, reciprocal-reached}
 use Rattle.floors.proofs.floor.reciprocal.Statement.{statement}
 use Rattle.floors.proofs.floor.reciprocal.Tie as tie
@@ -10,10 +10,10 @@ sub-q : tie.Need-sub-q
 sub-q c = search needs
 
 mul-t5 : tie.Need-mul-t5
-mul-t5 c = omega (arith, started-low reciprocal (c .args .y) 0 (c .args .g) (omega arith) (c .pre .3))
+mul-t5 c = omega (arith, started-low Reciprocal (c .args .y) 0 (c .args .g) (omega arith) (c .pre .3))
 
 sub-t6 : tie.Need-sub-t6
-sub-t6 c = omega (arith, started-low reciprocal (c .args .y) 0 (c .args .g) (omega arith) (c .pre .3))
+sub-t6 c = omega (arith, started-low Reciprocal (c .args .y) 0 (c .args .g) (omega arith) (c .pre .3))
 
 step-requires : tie.Need-step-requires
 step-requires c κs = search needs

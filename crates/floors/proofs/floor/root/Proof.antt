@@ -1,7 +1,7 @@
 -- `floors::floor::root` meets its contract: the start is at or below the floor, and one step leads to it. Assumes nothing.
 use native.Mathlib.Omega.{arith}
 use borrow.Author.Needs.{needs}
-use Rattle.kinds.specs.Operation.{root}
+use Rattle.kinds.specs.declared.Op.the-variants.{Root}
 use Rattle.floors.proofs.Reaching.{started-low, root-target, root-shifted, root-reached}
 use Rattle.floors.proofs.floor.root.Statement.{statement}
 use Rattle.floors.proofs.floor.root.Tie as tie
@@ -16,10 +16,10 @@ shl-step : tie.Need-shl-step
 shl-step c = search needs
 
 mul-step : tie.Need-mul-step
-mul-step c = omega (arith, started-low root (c .args .y) (c .args .p) (c .args .g) (c .pre .2) (c .pre .4), root-target (c .args .y) (c .args .p) (c .pre .1) (c .pre .2))
+mul-step c = omega (arith, started-low Root (c .args .y) (c .args .p) (c .args .g) (c .pre .2) (c .pre .4), root-target (c .args .y) (c .args .p) (c .pre .1) (c .pre .2))
 
 sub-step : tie.Need-sub-step
-sub-step c = omega (arith, started-low root (c .args .y) (c .args .p) (c .args .g) (c .pre .2) (c .pre .4), root-shifted (c .args .y) (c .args .p) (c .pre .1) (c .pre .2))
+sub-step c = omega (arith, started-low Root (c .args .y) (c .args .p) (c .args .g) (c .pre .2) (c .pre .4), root-shifted (c .args .y) (c .args .p) (c .pre .1) (c .pre .2))
 
 mul-step-2 : tie.Need-mul-step-2
 mul-step-2 c = search needs
