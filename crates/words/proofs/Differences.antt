@@ -1,8 +1,8 @@
 -- A signed number as the difference of two naturals: an equation of such differences is one of naturals. Its sign and magnitude; its word,
--- and the word of a sum; and the word of a number near 0, raised by 50,000. Assumes nothing.
+-- and the word of a sum; and the word of a number near 0 with a bias. Assumes nothing.
 use mathlib.Core.Path.{_≡_, refl, sym, ap, ap₂, _∙_}
 use mathlib.Core.Bool.{Bool, true, false}
-use Prim.Native.Nat.{ℕ, zero, suc, _+_, _-_, _%_, _≤_, _<_}
+use Prim.Native.Nat.{ℕ, zero, suc, _+_, _-_, _*_, _%_, _≤_, _<_}
 use native.Mathlib.Nat.{lt-of-not-le}
 use native.Mathlib.Decide.{decLe}
 use native.Mathlib.Omega.{arith}
@@ -162,7 +162,7 @@ wrapped-more t u m hu hm e =
     ∙ ap (λ (z : ℤ). wordOf (signed u +ℤ z)) (sym (diff-pos m))
     ∙ ap (λ (t : Bool). wordOf (signed u +ℤ withSign t m)) (sym e)
 
--- ---- words of numbers near 0, raised by 50,000
+-- ---- words of numbers from −h to h, with the bias h
 
 -- two tests that ask the same
 pub leb-same : (a b c d : ℕ) → (a ≤ b → c ≤ d) → (c ≤ d → a ≤ b) → leb a b ≡ leb c d
@@ -180,24 +180,23 @@ unfolding signed
 abs-signed u hu =
     (λ k. simp (lt-ltb u 2147483648 k), λ k. simp (le-ltb u 2147483648 k) (diff-abs u 4294967296 ∙ omega arith))
 
-pub within-raised : (u : ℕ) → u < 4294967296 → natAbs (signed u) ≤ 50000 → (u + 50000) % 4294967296 ≤ 100000
-within-raised u hu h =
-    either u 2147483648 (λ k. omega (arith, abs-signed u hu .1 k)) (λ k. omega (arith, abs-signed u hu .0 k))
+module _ (h u : ℕ) (small : h < 2147483648) (hu : u < 4294967296) where
+  pub within-biased : natAbs (signed u) ≤ h → (u + h) % 4294967296 ≤ 2 * h
+  within-biased l =
+      either u 2147483648 (λ k. omega (arith, abs-signed u hu .1 k)) (λ k. omega (arith, abs-signed u hu .0 k))
 
-pub raised-within : (u : ℕ) → u < 4294967296 → (u + 50000) % 4294967296 ≤ 100000 → natAbs (signed u) ≤ 50000
-raised-within u hu h =
-    either u 2147483648 (λ k. omega (arith, abs-signed u hu .1 k)) (λ k. omega (arith, abs-signed u hu .0 k))
+  biased-within : (u + h) % 4294967296 ≤ 2 * h → natAbs (signed u) ≤ h
+  biased-within l =
+      either u 2147483648 (λ k. omega (arith, abs-signed u hu .1 k)) (λ k. omega (arith, abs-signed u hu .0 k))
 
--- a number is within 50,000 of 0 where its raised word is at most 100,000
-pub signed-within : (u : ℕ) → u < 4294967296 → leb (natAbs (signed u)) 50000 ≡ leb ((u + 50000) % 4294967296) 100000
-signed-within u hu =
-    leb-same (natAbs (signed u)) 50000 ((u + 50000) % 4294967296) 100000 (within-raised u hu) (raised-within u hu)
+  -- a number is from −h to h where its biased word is at most 2h
+  pub signed-within : leb (natAbs (signed u)) h ≡ leb ((u + h) % 4294967296) (2 * h)
+  signed-within = leb-same (natAbs (signed u)) h ((u + h) % 4294967296) (2 * h) within-biased biased-within
 
--- it is then the raised word less 50,000
-pub signed-raised : (u : ℕ) → u < 4294967296 → (u + 50000) % 4294967296 ≤ 100000
-    → signed u ≡ subℕ ((u + 50000) % 4294967296) 50000
-unfolding signed
-signed-raised u hu h =
-    either u 2147483648
-    (λ k. simp (le-ltb u 2147483648 k) (diff-eq u 4294967296 ((u + 50000) % 4294967296) 50000 (omega arith)))
-    (λ k. simp (lt-ltb u 2147483648 k) (diff-pos u ∙ diff-eq u 0 ((u + 50000) % 4294967296) 50000 (omega arith)))
+  -- it is then the biased word less h
+  pub signed-biased : (u + h) % 4294967296 ≤ 2 * h → signed u ≡ subℕ ((u + h) % 4294967296) h
+  unfolding signed
+  signed-biased l =
+      either u 2147483648
+      (λ k. simp (le-ltb u 2147483648 k) (diff-eq u 4294967296 ((u + h) % 4294967296) h (omega arith)))
+      (λ k. simp (lt-ltb u 2147483648 k) (diff-pos u ∙ diff-eq u 0 ((u + h) % 4294967296) h (omega arith)))

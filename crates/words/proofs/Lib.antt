@@ -1,3 +1,4 @@
 pub mod Splicing
 pub mod Runs
 pub mod Differences
+pub mod Standing

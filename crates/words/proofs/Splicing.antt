@@ -1,21 +1,26 @@
 -- Laws of bytes put over bytes: stores in a row are one splice, two splices that touch are one, and what was put is read again. Assumes nothing.
 use mathlib.Core.Path.{_≡_, sym, ap, _∙_}
-use mathlib.Core.List.{List, [], _∷_, _++_, append-assoc}
+use mathlib.Core.List.{List, [], _∷_, _++_, append-assoc, append-nil}
 use Prim.Native.Nat.{ℕ, _+_, _*_, _/_, _%_, _≤_, _<_}
-use native.Mathlib.Nat.{add-assoc, zero-add, div-div-eq-div-mul, div-add-mod', mod-eq-of-lt, div-lt-iff-lt-mul, div-eq-of-lt, add-mul-div-right, add-mul-mod-self-left}
+use native.Mathlib.Nat.{add-assoc, add-zero, zero-add, div-div-eq-div-mul, div-add-mod', mod-eq-of-lt, div-lt-iff-lt-mul}
 use native.Mathlib.Numerals.{add-one, add-two, add-three}
 use native.Mathlib.Omega.{arith}
 use lib.Dec.{lit<}
-use lib.ListN.{length, getD, take, drop, set, length-append, length-take, drop-of-length-le}
+use lib.ListN.{length, getD, take, drop, set, length-append, length-take, drop-of-length-le, take-append-drop}
 use lib.Seq.{sets-eq, drop-cons, drop-append-add, take-append-seam, drop-append-seam, drop-drop}
 use Rattle.words.specs.Splice.{splice}
-use Rattle.words.specs.Word.{wordAt, wordBytes, halfBytes}
+use Rattle.words.specs.Word.{halfAt, wordAt, halfBytes, wordBytes}
 
 -- four stores in a row
 pub four : (l : List ℕ) (at a b c d : ℕ) → at + 4 ≤ length l
     → set (set (set (set l at a) (at + 1) b) (at + 2) c) (at + 3) d ≡ splice at (a ∷ b ∷ c ∷ d ∷ []) l
 unfolding splice
 four l at a b c d h = rw (add-one, add-two, add-three) (sets-eq (a ∷ b ∷ c ∷ d ∷ []) l at h)
+
+-- two stores in a row
+pub two : (l : List ℕ) (at a b : ℕ) → at + 2 ≤ length l → set (set l at a) (at + 1) b ≡ splice at (a ∷ b ∷ []) l
+unfolding splice
+two l at a b h = rw add-one (sets-eq (a ∷ b ∷ []) l at h)
 
 -- a list of four, by its elements
 listed : (b : List ℕ) → length b ≡ 4 → b ≡ getD b 0 0 ∷ getD b 1 0 ∷ getD b 2 0 ∷ getD b 3 0 ∷ []
@@ -42,6 +47,19 @@ splice-splice at a b l h =
     let n : at + length a ≡ length (take at l ++ a) = simp (length-append, length-take) (omega arith) in
     splice-front (take at l ++ a) b l (at + length a) n ∙ simp (length-append, append-assoc, add-assoc)
 
+-- a run right behind a run that was put, the first n bytes long
+pub splice-behind : (at n : ℕ) (a b l l₁ : List ℕ) → length a ≡ n → at + n + length b ≤ length l → l₁ ≡ splice at a l
+    → splice (at + n) b l₁ ≡ splice at (a ++ b) l
+splice-behind at n a b l l₁ e h p =
+    ap (splice (at + n) b) p
+    ∙ ap (λ (k : ℕ). splice (at + k) b (splice at a l)) (sym e)
+    ∙ splice-splice at a b l (omega arith)
+
+-- nothing put
+pub splice-none : (at : ℕ) (l : List ℕ) → splice at [] l ≡ l
+unfolding splice
+splice-none at l = simp (add-zero, append-nil, take-append-drop)
+
 -- the bytes that stand at the front of a list, and those behind them
 pub splice-take : (b l : List ℕ) → take (length b) (splice 0 b l) ≡ b
 unfolding splice
@@ -62,23 +80,14 @@ three-words at x y z l l₁ l₂ l₃ h e₁ e₂ e₃ =
     (e₂ ∙ ap (splice (at + 4) (wordBytes y)) e₁ ∙ splice-splice at (wordBytes x) (wordBytes y) l (omega arith))
     ∙ splice-splice at (wordBytes x ++ wordBytes y) (wordBytes z) l (omega arith)
 
--- two numbers of 16 bits put as one of 32
-pub pair-bytes : (a b : ℕ) → a < 65536 → b < 65536 → wordBytes (a + 65536 * b) ≡ halfBytes a ++ halfBytes b
-unfolding wordBytes halfBytes
-pair-bytes a b ha hb =
-    let e : a + 65536 * b ≡ a + 256 * b * 256 = omega arith in
-    let f : a + 65536 * b ≡ a + b * 65536 = omega arith in
-    let g : (a + 65536 * b) / 256 ≡ a / 256 + 256 * b = ap (λ (x : ℕ). x / 256) e ∙ add-mul-div-right a (256 * b) (lit< tt) in
-    let h : (a + 65536 * b) / 65536 ≡ a / 65536 + b = ap (λ (x : ℕ). x / 65536) f ∙ add-mul-div-right a b (lit< tt) in
-    let k : (a + 65536 * b) / 65536 ≡ b = omega (arith, div-eq-of-lt ha) in
-    let p : (a + 65536 * b) % 256 ≡ a % 256 = omega arith in
-    let q : (a + 65536 * b) / 256 % 256 ≡ a / 256 % 256 = ap (λ (x : ℕ). x % 256) g ∙ add-mul-mod-self-left (a / 256) 256 b in
-    let r : (a + 65536 * b) / 65536 % 256 ≡ b % 256 = ap (λ (x : ℕ). x % 256) k in
-    let s : (a + 65536 * b) / 16777216 % 256 ≡ b / 256 % 256 =
-    ap (λ (x : ℕ). x % 256) (sym (div-div-eq-div-mul (a + 65536 * b) 65536 256) ∙ ap (λ (x : ℕ). x / 256) k) in
-    cc
-
 -- a number that was put is read again
+pub half-back : (x : ℕ) → x < 65536 → halfAt (halfBytes x) 0 ≡ x
+unfolding halfBytes
+half-back x h =
+    let c : x / 256 < 256 = div-lt-iff-lt-mul (lit< tt) .1 h in
+    let d : x / 256 % 256 ≡ x / 256 = mod-eq-of-lt c in
+    omega (arith, div-add-mod' x 256)
+
 pub word-back : (x : ℕ) → x < 4294967296 → wordAt (wordBytes x) 0 ≡ x
 unfolding wordBytes
 word-back x h =

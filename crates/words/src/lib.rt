@@ -1,9 +1,9 @@
 // Little-endian numbers and letters in bytes, read and put, and signed numbers in unsigned code.
 ghost use mathlib.Core.Path.{_≡_};
-ghost use Prim.Native.Nat.{_+_, _*_, _%_, _≤_, _<_};
+ghost use Prim.Native.Nat.{_+_, _≤_, _<_};
 ghost use lib.ListN.{length};
 ghost use lib.IntN.{_+ℤ_, subℕ};
-ghost use Rattle.words.specs.Word.{halfAt, wordAt, wordBytes, readsAt};
+ghost use Rattle.words.specs.Word.{halfAt, wordAt, halfBytes, wordBytes, readsAt};
 ghost use Rattle.words.specs.Splice.{splice};
 ghost use Rattle.words.specs.Signed.{signed, wordOf, withSign};
 ghost use Rattle.words.specs.Parts.{partsOf};
@@ -49,6 +49,15 @@ pub fn put_four(out: &mut [u8], at: usize, b: [u8; 4])
     out[at + 3] = b[3];
 }
 
+// Puts the two bytes of a number over those from `at` on, the lower first.
+pub fn put_half(out: &mut [u8], at: usize, x: u64)
+    requires { ⌜ at + 2 ≤ length (now out) ⌝ }
+    ensures { λ _. ⌜ now (out .exit) ≡ splice at (halfBytes x) (now (out .entry)) ⌝ }
+{
+    out[at] = (x % 256) as u8;
+    out[at + 1] = (x / 256 % 256) as u8;
+}
+
 // Puts the four bytes of a number over those from `at` on, the lowest first.
 pub fn put_word(out: &mut [u8], at: usize, x: u64)
     requires { ⌜ at + 4 ≤ length (now out) ⌝ }
@@ -66,26 +75,10 @@ pub fn put_word(out: &mut [u8], at: usize, x: u64)
     );
 }
 
-// Two numbers of 16 bits as one of 32, the first in the lower half.
-pub fn pair(a: u64, b: u64) -> u64
-    requires { ⌜ (a < 65536) × (b < 65536) ⌝ }
-    ensures { λ r. ⌜ r ≡ a + 65536 * b ⌝ }
-{
-    a + 65536 * b
-}
-
 // A signed number by its sign and its magnitude; 0 is not negative.
 pub struct Signed {
     pub negative: bool,
     pub magnitude: u64,
-}
-
-// A word raised by 50,000, so that heights are from 0 to 100,000.
-pub fn raised(u: u64) -> u64
-    requires { ⌜ u < 4294967296 ⌝ }
-    ensures { λ r. ⌜ r ≡ (u + 50000) % 4294967296 ⌝ }
-{
-    (u + 50000) % 4294967296
 }
 
 // a less b.

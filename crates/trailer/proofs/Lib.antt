@@ -1,0 +1,6 @@
+pub mod Layouts
+pub mod Putting
+pub mod Readings
+pub mod RoundTrip
+pub mod Kept
+pub mod Rows
