@@ -1,8 +1,9 @@
+pub mod Limits
 pub mod Map
 pub mod Offset
 pub mod Centre
 pub mod List
 pub mod Call
 pub mod Agree
-pub mod Asked
+pub mod Accepted
 pub mod Rows

@@ -1,15 +1,14 @@
 -- The list of a map: one record per inner point, row by row, then a trailer. Assumes nothing.
 use Prim.Native.Nat.{ℕ, _+_, _-_, _*_, _/_, _%_}
-use mathlib.Core.List.{List, [], _∷_, _++_}
+use mathlib.Core.List.{List, _++_}
 use Rattle.kinds.specs.declared.Mode.{Mode}
-use Rattle.words.specs.Word.{halfBytes, wordBytes}
 use Rattle.words.specs.Joined.{joined}
+use Rattle.trailer.specs.Kinds.{lengthOf}
+use Rattle.trailer.specs.Bytes.{trailerBytes}
+use Rattle.trailer.specs.declared.Kind.the-variants.{Cut1}
+use Rattle.trailer.specs.declared.Fields.{Fields}
 use Rattle.cutter.specs.Map.{widthOf, depthOf, stepOf, radiusOf}
 use Rattle.cutter.specs.Centre.{Point, Centre, centreOf, pointAt, recordBytes}
-
--- the letters CUT1
-abbrev pub cut1 : List ℕ
-cut1 = 67 ∷ 85 ∷ 84 ∷ 49 ∷ []
 
 -- how many inner points a map has
 abbrev pub countOf : ℕ → ℕ → ℕ
@@ -34,16 +33,22 @@ centreAt mode m n = centreOf mode (stepOf m) (radiusOf m) (innerPoint m n)
 unfoldable pub recordAt : Mode → List ℕ → ℕ → List ℕ
 recordAt mode m n = recordBytes (centreAt mode m n)
 
--- the trailer: CUT1, the distance back to the first record, and the map's w, d, step and radius
-unfoldable pub trailerBytes : ℕ → ℕ → ℕ → ℕ → ℕ → List ℕ
-trailerBytes back w d step radius = cut1 ++ wordBytes back ++ halfBytes w ++ halfBytes d ++ halfBytes step ++ halfBytes radius
+-- the fields of the trailer: the distance back to the first record, and the map's w, d, step and radius
+abbrev pub listFields : List ℕ → Fields
+listFields m =
+    record {
+      distance = 12 * countOf (widthOf m) (depthOf m);
+      width = widthOf m;
+      depth = depthOf m;
+      step = stepOf m;
+      radius = radiusOf m;
+      rounding = 0;
+    }
 
 -- how long the list of a map is
 unfoldable pub listLength : List ℕ → ℕ
-listLength m = 12 * countOf (widthOf m) (depthOf m) + 16
+listLength m = 12 * countOf (widthOf m) (depthOf m) + lengthOf Cut1
 
--- the complete list
+-- the complete list: its records, and a trailer of the kind CUT1
 unfoldable pub listBytes : Mode → List ℕ → List ℕ
-listBytes mode m =
-    joined (recordAt mode m) (countOf (widthOf m) (depthOf m))
-    ++ trailerBytes (12 * countOf (widthOf m) (depthOf m)) (widthOf m) (depthOf m) (stepOf m) (radiusOf m)
+listBytes mode m = joined (recordAt mode m) (countOf (widthOf m) (depthOf m)) ++ trailerBytes Cut1 (listFields m)

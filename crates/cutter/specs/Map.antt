@@ -1,33 +1,31 @@
 -- A map: its trailer's fields, its heights, and the differences at a point. Assumes nothing.
 use Prim.Native.Nat.{ℕ, _+_, _-_, _*_, _≤_, _<_}
-use mathlib.Core.List.{List, [], _∷_}
-use lib.ListN.{length}
+use mathlib.Core.List.{List}
 use lib.IntN.{ℤ, _-ℤ_}
-use Rattle.words.specs.Word.{halfAt, wordAt}
+use Rattle.words.specs.Word.{wordAt}
 use Rattle.words.specs.Signed.{signed}
+use Rattle.trailer.specs.Bytes.{lastFields}
+use Rattle.trailer.specs.declared.Kind.the-variants.{Plt1}
+use Rattle.trailer.specs.declared.Fields.{Fields}
 
--- the letters PLT1
-abbrev pub plt1 : List ℕ
-plt1 = 80 ∷ 76 ∷ 84 ∷ 49 ∷ []
-
--- the trailer is the last 16 bytes: the letters, the distance back to the first height, w, d, step and radius
-abbrev pub trailerAt : List ℕ → ℕ
-trailerAt m = length m - 16
+-- the trailer, of the kind PLT1, is what a map ends in: the distance back to the first height, w, d, step and radius
+abbrev pub trailerOf : List ℕ → Fields
+trailerOf m = lastFields Plt1 m
 
 abbrev pub distanceOf : List ℕ → ℕ
-distanceOf m = wordAt m (length m - 12)
+distanceOf m = trailerOf m .distance
 
 abbrev pub widthOf : List ℕ → ℕ
-widthOf m = halfAt m (length m - 8)
+widthOf m = trailerOf m .width
 
 abbrev pub depthOf : List ℕ → ℕ
-depthOf m = halfAt m (length m - 6)
+depthOf m = trailerOf m .depth
 
 abbrev pub stepOf : List ℕ → ℕ
-stepOf m = halfAt m (length m - 4)
+stepOf m = trailerOf m .step
 
 abbrev pub radiusOf : List ℕ → ℕ
-radiusOf m = halfAt m (length m - 2)
+radiusOf m = trailerOf m .radius
 
 -- the point at column c and row q of a w × d map, both counted from 0, is an inner one: it has four neighbours
 pub record Inner (w d c q : ℕ) : Type 0 where
