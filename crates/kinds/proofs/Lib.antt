@@ -2,3 +2,4 @@ pub mod Neighbours
 pub mod Directed
 pub mod Ties
 pub mod Questions
+pub mod Places

@@ -17,6 +17,21 @@ unfolding ask
 yes true n rest e = (tt, e)
 yes false n rest e = absurd (omega arith)
 
+-- one that was answered yes gives what the later ones give,
+pub asked : (t : Bool) (n rest : ℕ) → T t → ask t n rest ≡ rest
+unfolding ask
+asked true n rest h = refl
+asked false n rest h = absurd h
+
+-- the same where the answer is a test's value, and its number where it is no
+pub ask-yes : (t : Bool) (n rest k : ℕ) → t ≡ true → k ≡ rest → k ≡ ask t n rest
+unfolding ask
+ask-yes t n rest k e f = rw (e, f)
+
+pub ask-no : (t : Bool) (n rest : ℕ) → t ≡ false → n ≡ ask t n rest
+unfolding ask
+ask-no t n rest e = rw e
+
 pub sure : (t : Bool) → T t → t ≡ true
 sure true h = refl
 sure false h = absurd h

@@ -1,6 +1,6 @@
 // The operations and the roundings by their cases, the flags by their bits, questions, and the choice between two neighbours.
 ghost use mathlib.Core.Path.{_≡_};
-ghost use Rattle.kinds.specs.Operation.{isOperation, opOf};
+ghost use Rattle.kinds.specs.Operation.{isOperation, opOf, isReciprocal};
 ghost use Rattle.kinds.specs.Rounding.{isRounding, modeOf, away};
 ghost use Rattle.kinds.specs.Question.{ask as Question·ask};
 ghost use Rattle.kinds.specs.Guard.{placeOf};
@@ -28,6 +28,16 @@ impl Op {
             1 => Op::Reciprocal,
             2 => Op::Root,
             _ => Op::InverseRoot,
+        }
+    }
+
+    pub fn is_reciprocal(self) -> bool
+        ensures { λ r. ⌜ r ≡ isReciprocal self ⌝ }
+    {
+        match self {
+            Op::Reciprocal => true,
+            Op::Root => false,
+            Op::InverseRoot => false,
         }
     }
 }
