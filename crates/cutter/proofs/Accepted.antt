@@ -1,46 +1,84 @@
 -- What a list call that is not refused knows of its map and its buffer. Assumes nothing.
-use mathlib.Core.Path.{_≡_}
+use mathlib.Core.Path.{_≡_, refl, sym, ap, _∙_}
+use mathlib.Core.Bool.{Bool, true, false, cond, _&&_, true≢false}
 use mathlib.Core.List.{List}
-use Prim.Native.Nat.{ℕ, _+_, _-_, _*_, _≤_}
+use Prim.Native.Nat.{ℕ, zero, suc, _+_, _-_, _*_, _≤_, _<_}
+use native.Mathlib.Nat.{not-suc-le-zero}
 use native.Mathlib.Omega.{arith}
-use borrow.Author.Tests.{leb-true, eqb-true}
+use borrow.Author.Tests.{leb-true, eqb-true, ne-eqb}
 use lib.Dec.{leb, eqb}
 use lib.ListN.{length}
+use lib.IntN.{natAbs}
+use Rattle.kinds.specs.Rounding.{isRounding, modeOf}
 use Rattle.kinds.proofs.Questions.{yes, sure}
-use Rattle.kinds.specs.Rounding.{isRounding}
-use Rattle.cutter.specs.Map.{distanceOf, widthOf, depthOf, stepOf, radiusOf}
-use Rattle.cutter.specs.List.{listLength}
-use Rattle.cutter.specs.Call.{isLettered, isSized, isStepped, isLong, heightsWithin, hasRoom, listRefusal}
-use Rattle.cutter.specs.Asked.{trailerOf, Sizes, Steps, Heights, Ready}
-use Rattle.cutter.specs.declared.trailer.Trailer.{Trailer}
-use Rattle.cutter.proofs.Questions.{both-are, sizes-are, steps-are, heights-small}
+use Rattle.words.specs.Word.{wordAt}
+use Rattle.words.specs.Signed.{signed}
+use Rattle.words.specs.Splice.{splice}
+use Rattle.words.proofs.Differences.{either}
+use Rattle.trailer.specs.Kinds.{lengthOf}
+use Rattle.trailer.specs.Bytes.{endsIn}
+use Rattle.trailer.specs.declared.Kind.the-variants.{Plt1, Cut1}
+use Rattle.trailer.specs.declared.Fields.{Fields}
+use Rattle.cutter.specs.Limits.{bytesLeast, sideLeast, sideMost, stepMost, radiusMost, heightMost}
+use Rattle.cutter.specs.Map.{trailerOf, distanceOf, widthOf, depthOf, stepOf, radiusOf}
+use Rattle.cutter.specs.List.{countOf, listLength, listBytes}
+use Rattle.cutter.specs.Call.{within, isSized, isStepped, isLong, heightsWithin, hasRoom, mapRefusal, listRefusal, listAnswer, bufferAfter}
+use Rattle.cutter.specs.Accepted.{Sizes, Steps, Heights, Accepted, Ready}
 
--- every question answered "yes"
-pub record Accepted (m : List ℕ) (room : ℕ) : Type 0 where
-  pub sixteen : 16 ≤ length m
-  pub sizes : Sizes (widthOf m) (depthOf m)
-  pub steps : Steps (stepOf m) (radiusOf m)
-  pub long : length m ≡ 4 * (widthOf m * depthOf m) + 16
-  pub heights : Heights m (widthOf m * depthOf m)
-  pub held : listLength m ≤ room
+-- ---- "yes" taken apart
 
-pub accepted-of : (rounding : ℕ) (m : List ℕ) (room : ℕ) → listRefusal rounding m room ≡ 0 → Accepted m room
-unfolding listRefusal
-accepted-of rounding m room e =
+pub both-are : (a b : Bool) → a && b ≡ true → (a ≡ true) × (b ≡ true)
+both-are true b e = (refl, e)
+both-are false b e = absurd (true≢false (sym e))
+
+within-is : (low high x : ℕ) → within low high x ≡ true → (low ≤ x) × (x ≤ high)
+within-is low high x e =
+    let p = both-are (leb low x) (leb x high) e in
+    (leb-true low x (p .0), leb-true x high (p .1))
+
+pub sizes-are : (w d : ℕ) → isSized w d ≡ true → Sizes w d
+sizes-are w d e =
+    let p = both-are (within sideLeast sideMost w) (within sideLeast sideMost d) e in
+    let x = within-is sideLeast sideMost w (p .0) in
+    let y = within-is sideLeast sideMost d (p .1) in
+    record { wide = x .0; narrow = x .1; deep = y .0; shallow = y .1 }
+
+steps-are : (step radius : ℕ) → isStepped step radius ≡ true → Steps step radius
+steps-are step radius e =
+    let p = both-are (within 1 stepMost step) (within 1 radiusMost radius) e in
+    let x = within-is 1 stepMost step (p .0) in
+    let y = within-is 1 radiusMost radius (p .1) in
+    record { step-least = x .0; step-most = x .1; radius-least = y .0; radius-most = y .1 }
+
+heights-small : (m : List ℕ) (n : ℕ) → heightsWithin m n ≡ true → (i : ℕ) → i < n → natAbs (signed (wordAt m (4 * i))) ≤ heightMost
+unfolding heightsWithin
+heights-small m zero e i h = absurd (not-suc-le-zero h)
+heights-small m (suc n) e i h =
+    let p = both-are (heightsWithin m n) (leb (natAbs (signed (wordAt m (4 * n)))) heightMost) e in
+    either i n
+    (λ k.
+    let j : n ≡ i = omega arith in
+    leb-true (natAbs (signed (wordAt m (4 * i)))) heightMost (ap (λ (x : ℕ). leb (natAbs (signed (wordAt m (4 * x)))) heightMost) (sym j) ∙ p .1))
+    (λ k. heights-small m n (p .0) i k)
+
+-- ---- the map's questions
+
+pub accepted-of : (m : List ℕ) (room : ℕ) → mapRefusal m room ≡ 0 → Accepted m room
+unfolding mapRefusal
+accepted-of m room e =
     let w : ℕ = widthOf m in
     let d : ℕ = depthOf m in
-    let a2 = yes (isRounding rounding) 1 _ e in
-    let a5 = yes (leb 16 (length m)) 4 _ (a2 .1) in
-    let a6 = yes (isLettered m) 5 _ (a5 .1) in
+    let a5 = yes (leb bytesLeast (length m)) 4 _ e in
+    let a6 = yes (endsIn Plt1 m) 5 _ (a5 .1) in
     let a7 = yes (isSized w d) 6 _ (a6 .1) in
     let a8 = yes (isStepped (stepOf m) (radiusOf m)) 7 _ (a7 .1) in
     let a9 = yes (isLong (distanceOf m) (length m) (w * d)) 8 _ (a8 .1) in
     let a10 = yes (heightsWithin m (w * d)) 9 _ (a9 .1) in
     let a11 = yes (hasRoom m room) 10 0 (a10 .1) in
-    let nine = both-are (eqb (distanceOf m) (4 * (w * d))) (eqb (length m) (4 * (w * d) + 16)) (sure _ (a9 .0)) in
-    let long : length m ≡ 4 * (w * d) + 16 = eqb-true (length m) (4 * (w * d) + 16) (nine .1) in
+    let nine = both-are (eqb (distanceOf m) (4 * (w * d))) (eqb (length m) (4 * (w * d) + lengthOf Plt1)) (sure _ (a9 .0)) in
+    let long : length m ≡ 4 * (w * d) + lengthOf Plt1 = eqb-true (length m) (4 * (w * d) + lengthOf Plt1) (nine .1) in
     record {
-      sixteen = leb-true 16 (length m) (sure _ (a5 .0));
+      least = leb-true bytesLeast (length m) (sure _ (a5 .0));
       sizes = sizes-are w d (sure _ (a7 .0));
       steps = steps-are (stepOf m) (radiusOf m) (sure _ (a8 .0));
       long = long;
@@ -48,32 +86,46 @@ accepted-of rounding m room e =
       held = leb-true (listLength m) room (sure _ (a11 .0));
     }
 
--- the same of the trailer as it is read
-module _ (rounding : ℕ) (m : List ℕ) (room : ℕ) (z : listRefusal rounding m room ≡ 0) where
-  pub sixteen-of : 16 ≤ length m
-  sixteen-of = accepted-of rounding m room z .sixteen
+-- what the code reads of an accepted map
+module _ (m : List ℕ) (room : ℕ) (z : mapRefusal m room ≡ 0) where
+  pub trailer-fits : lengthOf Plt1 ≤ length m
+  trailer-fits = accepted-of m room z .least
 
-  pub ready-of : (t : Trailer) → t ≡ trailerOf m → Ready m t
-  unfolding trailerOf
-  ready-of t e =
-      let a = accepted-of rounding m room z in
-      record { is = e; sizes = rw e (a .sizes); steps = rw e (a .steps); heights = rw e (a .heights) }
+  module _ (t : Fields) (e : t ≡ trailerOf m) where
+    pub ready-of : Ready m t
+    ready-of =
+        let a = accepted-of m room z in
+        record { is = e; sizes = rw e (a .sizes); steps = rw e (a .steps); heights = rw e (a .heights) }
 
-  pub sizes-of : (t : Trailer) → t ≡ trailerOf m → Sizes (t .width) (t .depth)
-  sizes-of t e = ready-of t e .sizes
+    pub sizes-of : Sizes (t .width) (t .depth)
+    sizes-of = ready-of .sizes
 
-  pub width-of : (t : Trailer) → t ≡ trailerOf m → 2 ≤ t .width
-  width-of t e = omega (arith, ready-of t e .sizes .wide)
+    pub held-of : 12 * countOf (t .width) (t .depth) + lengthOf Cut1 ≤ room
+    unfolding listLength
+    held-of = rw e (accepted-of m room z .held)
 
-  pub depth-of : (t : Trailer) → t ≡ trailerOf m → 2 ≤ t .depth
-  depth-of t e = omega (arith, ready-of t e .sizes .deep)
+-- ---- the call's
 
-  pub held-of : (t : Trailer) → t ≡ trailerOf m → 12 * ((t .width - 2) * (t .depth - 2)) + 16 ≤ room
-  unfolding trailerOf listLength
-  held-of t e = rw e (accepted-of rounding m room z .held)
+pub map-asked : (rounding : ℕ) (m : List ℕ) (room : ℕ) → listRefusal rounding m room ≡ 0 → mapRefusal m room ≡ 0
+unfolding listRefusal
+map-asked rounding m room e = yes (isRounding rounding) 1 (mapRefusal m room) e .1
 
-  pub records-room : (t : Trailer) → t ≡ trailerOf m → 12 * ((t .width - 2) * (t .depth - 2)) ≤ room
-  records-room t e = omega (arith, held-of t e)
+-- an accepted call reports the list's length, and leaves the list at the buffer's front
+module _ (rounding : ℕ) (m : List ℕ) where
+  pub accepted-answer : (room : ℕ) → listRefusal rounding m room ≡ 0 → listAnswer rounding m room ≡ listLength m
+  unfolding listAnswer
+  accepted-answer room e = rw e
 
-  pub trailer-room : (t : Trailer) (n : ℕ) → t ≡ trailerOf m → n ≡ room → 12 * ((t .width - 2) * (t .depth - 2)) + 16 ≤ n
-  trailer-room t n e f = omega (arith, held-of t e)
+  pub accepted-buffer : (out : List ℕ) → listRefusal rounding m (length out) ≡ 0
+      → bufferAfter rounding m out ≡ splice 0 (listBytes (modeOf rounding) m) out
+  unfolding bufferAfter
+  accepted-buffer out e = rw e
+
+  -- a refused one reports 0 and leaves the buffer
+  pub refused-answer : (room : ℕ) → (listRefusal rounding m room ≡ 0 → ⊥) → listAnswer rounding m room ≡ 0
+  unfolding listAnswer
+  refused-answer room h = rw (ne-eqb (listRefusal rounding m room) 0 h)
+
+  pub refused-buffer : (out : List ℕ) → (listRefusal rounding m (length out) ≡ 0 → ⊥) → bufferAfter rounding m out ≡ out
+  unfolding bufferAfter
+  refused-buffer out h = rw (ne-eqb (listRefusal rounding m (length out)) 0 h)

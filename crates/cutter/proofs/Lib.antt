@@ -1,6 +1,7 @@
-pub mod Questions
-pub mod Locality
-pub mod Lengths
+pub mod Counts
 pub mod Accepted
-pub mod Rows
+pub mod Lengths
+pub mod Locality
+pub mod Offsets
 pub mod Ties
+pub mod Rows

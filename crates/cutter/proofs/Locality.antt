@@ -3,10 +3,13 @@ use mathlib.Core.Path.{_≡_}
 use mathlib.Core.List.{List}
 use Prim.Native.Nat.{ℕ, _+_, _-_, _*_, _/_, _≤_, _<_}
 use native.Mathlib.Omega.{arith}
-use lib.ListN.{length, getD, set, length-set}
+use lib.ListN.{length, getD, set}
 use lib.Seq.{getD-set-other}
 use Rattle.kinds.specs.declared.Mode.{Mode}
-use Rattle.words.specs.Word.{halfAt, wordAt}
+use Rattle.words.specs.Word.{wordAt}
+use Rattle.trailer.specs.Kinds.{lengthOf}
+use Rattle.trailer.specs.declared.Kind.the-variants.{Plt1}
+use Rattle.trailer.proofs.Kept.{last-kept}
 use Rattle.cutter.specs.Map.{widthOf, stepOf, radiusOf, heightAt, dxAt, dyAt}
 use Rattle.cutter.specs.Centre.{pointAt}
 use Rattle.cutter.specs.List.{columnOf, rowOf, centreAt, recordAt}
@@ -37,20 +40,6 @@ module _ (m : List ℕ) (i b : ℕ) where
       let b₃ = byte-kept (4 * k + 3) (λ e. h (omega arith)) in
       cc
 
-  -- a field of the trailer, s bytes from the end
-  half-kept : (s : ℕ) → i + 16 < length m → 2 ≤ s → s ≤ 16 → halfAt (set m i b) (length (set m i b) - s) ≡ halfAt m (length m - s)
-  half-kept s h low high =
-      let e : length (set m i b) ≡ length m = length-set m i b in
-      let b₀ = byte-kept (length m - s) (λ f. clash f h low high) in
-      let b₁ = byte-kept (length m - s + 1) (λ f. clash′ f h low high) in
-      cc
-    where
-      clash : {n : ℕ} → n - s ≡ i → i + 16 < n → 2 ≤ s → s ≤ 16 → ⊥
-      clash f h low high = omega arith
-
-      clash′ : {n : ℕ} → n - s + 1 ≡ i → i + 16 < n → 2 ≤ s → s ≤ 16 → ⊥
-      clash′ f h low high = omega arith
-
 -- place k of a map that is w wide is neither the point at column c and row q nor one of its four neighbours
 pub record Elsewhere (w c q k : ℕ) : Type 0 where
   pub here : k ≡ q * w + c → ⊥
@@ -72,13 +61,9 @@ module _ (m : List ℕ) (i b : ℕ) where
       )
 
   -- byte i, which is the height's at place i / 4, is changed: the record stays
-  pub record-kept : (mode : Mode) (n : ℕ) → i + 16 < length m → Elsewhere (widthOf m) (columnOf (widthOf m) n) (rowOf (widthOf m) n) (i / 4)
+  pub record-kept : (mode : Mode) (n : ℕ) → i + lengthOf Plt1 < length m
+      → Elsewhere (widthOf m) (columnOf (widthOf m) n) (rowOf (widthOf m) n) (i / 4)
       → recordAt mode (set m i b) n ≡ recordAt mode m n
   unfolding recordAt centreAt
   record-kept mode n t h =
-      cc (
-        half-kept m i b 8 t (omega arith) (omega arith),
-        half-kept m i b 4 t (omega arith) (omega arith),
-        half-kept m i b 2 t (omega arith) (omega arith),
-        point-kept (widthOf m) (columnOf (widthOf m) n) (rowOf (widthOf m) n) h,
-      )
+      cc (last-kept Plt1 m i b t, point-kept (widthOf m) (columnOf (widthOf m) n) (rowOf (widthOf m) n) h)

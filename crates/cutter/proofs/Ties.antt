@@ -1,13 +1,11 @@
 -- No offset lies halfway between two whole numbers, so that no tie is ever rounded. Assumes nothing.
 use Prim.Native.Nat.{ℕ, zero, suc, _+_, _*_, _/_, _%_, _≤_, _<_}
-use mathlib.Core.Path.{_≡_, refl, ap}
-use mathlib.Core.Bool.{Bool, true, false, cond}
+use mathlib.Core.Path.{_≡_, ap}
 use native.Mathlib.Nat.{mod-lt, div-add-mod, mul-pos}
 use native.Mathlib.Omega.{arith}
-use borrow.Author.Tests.{eqb-true}
-use lib.Dec.{eqb, ltb}
 use lib.IntN.{ℤ, natAbs}
-use Rattle.kinds.specs.Rounding.{exact, below, half, above, placeBy}
+use Rattle.kinds.specs.Rounding.{half}
+use Rattle.kinds.proofs.Places.{half-met}
 use Rattle.numbers.proofs.Squares.{square-same, square-part}
 use Rattle.cutter.specs.Offset.{squaredLength, placeOver}
 
@@ -53,18 +51,8 @@ module _ (x y z radius q t : ℕ) (pos : 0 < q) (is : q ≡ x * x + y * y + z * 
       descent radius t w w x y z (omega arith) (root-positive w q (root .is) pos) (omega (arith, root .is)) same
 
   never-half : placeOver (x * radius) q t ≡ half → ⊥
-  unfolding placeOver placeBy
-  never-half e =
-      let n : ℕ = x * radius in
-      never-odd
-      (eqb-true ((t + suc t) * (t + suc t) * q) (4 * (n * n))
-      (third (eqb (t * t * q) (n * n)) (ltb ((t + suc t) * (t + suc t) * q) (4 * (n * n))) (eqb ((t + suc t) * (t + suc t) * q) (4 * (n * n))) e))
-    where
-      third : (a b c : Bool) → cond a exact (cond b above (cond c half below)) ≡ half → c ≡ true
-      third a b true e = refl
-      third true b false e = cc
-      third false true false e = cc
-      third false false false e = cc
+  unfolding placeOver
+  never-half e = never-odd (half-met _ _ _ _ e)
 
 -- the three offsets of a point, whatever the whole number below
 pub record NoTie (dx dy : ℤ) (step radius t : ℕ) : Type 0 where

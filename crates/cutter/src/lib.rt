@@ -1,3 +1,1 @@
-// The cutter list: what a map, an offset, a centre and a list are. The code reads a map's trailer and asks its questions.
-pub mod door;
-pub mod trailer;
+// The cutter list: what a map, an offset, a centre and a list are, and what the list call answers. Definitions and theorems only, no code.
