@@ -1,7 +1,10 @@
 pub mod Counts
 pub mod Accepted
 pub mod Lengths
-pub mod Locality
 pub mod Offsets
 pub mod Ties
+pub mod Places
+pub mod Points
+pub mod Locality
+pub mod Entries
 pub mod Rows

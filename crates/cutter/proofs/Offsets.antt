@@ -1,16 +1,18 @@
 -- n over √q: its floor, its place above the floor, and its roundings; an offset is at most the radius. Assumes nothing.
-use mathlib.Core.Path.{_≡_, ap, _∙_}
+use mathlib.Core.Path.{_≡_, refl, sym, ap}
 use mathlib.Core.Logic.{by-cases}
-use mathlib.Core.Bool.{Bool, true, false, not}
+use mathlib.Core.Bool.{Bool, true, false, cond, not}
 use mathlib.Core.List.{[], _∷_}
-use Prim.Native.Nat.{ℕ, suc, _+_, _*_, _^_, _≤_, _<_}
-use native.Mathlib.Nat.{mul-le-mul-left, mul-le-mul-right}
+use Prim.Native.Nat.{ℕ, zero, suc, _+_, _*_, _^_, _≤_, _<_}
+use native.Mathlib.Nat.{mul-le-mul-left}
+use native.Mathlib.Numerals.{add-one}
 use native.Mathlib.Decide.{decLt}
 use native.Mathlib.Omega.{arith}
 use borrow.Author.Tests.{eq-eqb, ne-eqb}
 use lib.Dec.{eqb, leb→le, le→leb}
-use lib.IntN.{ℤ, natAbs}
+use lib.IntN.{ℤ, pos, negsuc, natAbs, _+ℤ_, +ℤ-one}
 use Rattle.kinds.specs.declared.Mode.{Mode}
+use Rattle.kinds.specs.declared.Mode.the-variants.{Up, Down}
 use Rattle.kinds.specs.Rounding.{roundedBy}
 use Rattle.kinds.specs.Guard.{placeOf}
 use Rattle.kinds.proofs.Directed as directed
@@ -18,7 +20,7 @@ use Rattle.kinds.proofs.Neighbours.{next-most}
 use Rattle.kinds.proofs.Places.{place-exact, place-below, place-half, place-above}
 use Rattle.numbers.proofs.Greatest.{greatest-found, greatest-above, greatest-is, squareFits, square-antitone}
 use Rattle.numbers.proofs.Ring.{v, #, _⊕_, _⊗_, _⊙_⊑_, nlin}
-use Rattle.words.specs.Signed.{isNegative}
+use Rattle.words.specs.Signed.{withSign, isNegative}
 use Rattle.words.proofs.Differences.{abs-sign}
 use Rattle.cutter.specs.Offset.{floorOver, placeOver, roundedOver, offsetOf}
 
@@ -45,7 +47,7 @@ floor-is n q t low high small =
 
 -- ---- the place, by what the square of 2t or 2t + 1, times q, leaves of 4·n²
 
-module _ (n q t left : ℕ) (pos : 0 < q) where
+module _ (n q t left : ℕ) (some : 0 < q) where
   pub place-odd : (2 * t + 1) * (2 * t + 1) * q + left ≡ 4 * (n * n) → placeOver n q t ≡ placeOf true (not (eqb left 0))
   unfolding placeOver
   place-odd is =
@@ -83,9 +85,18 @@ pub rounded-exact : (mode : Mode) (negative : Bool) (n q : ℕ) → Reached n q 
 unfolding roundedOver placeOver
 rounded-exact mode negative n q e = directed.rounded-exact _ _ _ _ _ _ mode e
 
+-- anywhere else down goes on where the number is negative, and up where it is not
+pub rounded-down : (negative : Bool) (n q : ℕ) → (Reached n q → ⊥) → roundedOver Down negative n q ≡ cond negative (suc (floorOver n q)) (floorOver n q)
+unfolding roundedOver placeOver
+rounded-down negative n q h = directed.rounded-down _ _ _ _ _ _ h
+
+pub rounded-up : (negative : Bool) (n q : ℕ) → (Reached n q → ⊥) → roundedOver Up negative n q ≡ cond (not negative) (suc (floorOver n q)) (floorOver n q)
+unfolding roundedOver placeOver
+rounded-up negative n q h = directed.rounded-up _ _ _ _ _ _ h
+
 -- ---- a component of the normal times the radius
 
-module _ (component radius q : ℕ) (pos : 0 < q) (part : component * component ≤ q) where
+module _ (component radius q : ℕ) (some : 0 < q) (part : component * component ≤ q) where
   -- a whole number at or below the quotient is at most the radius
   pub quotient-most : (t : ℕ) → t * t * q ≤ component * radius * (component * radius) → t ≤ radius
   quotient-most t low =
@@ -121,5 +132,25 @@ module _ (component radius q : ℕ) (pos : 0 < q) (part : component * component 
 pub offset-most : (mode : Mode) (component : ℤ) (radius q : ℕ) → 0 < q → natAbs component * natAbs component ≤ q
     → natAbs (offsetOf mode component radius q) ≤ radius
 unfolding offsetOf
-offset-most mode component radius q pos part =
-    rw (abs-sign (isNegative component)) (rounded-most (natAbs component) radius q pos part mode (isNegative component))
+offset-most mode component radius q some part =
+    rw (abs-sign (isNegative component)) (rounded-most (natAbs component) radius q some part mode (isNegative component))
+
+-- ---- down and up
+
+-- with the sign put on, up is one above down
+one-above : (negative : Bool) (t : ℕ) → withSign negative (cond (not negative) (suc t) t) ≡ withSign negative (cond negative (suc t) t) +ℤ pos 1
+unfolding withSign
+one-above false t = ap pos (sym (add-one t))
+one-above true zero = refl
+one-above true (suc t) = sym (+ℤ-one (negsuc (suc t)))
+
+module _ (component : ℤ) (radius q : ℕ) where
+  -- at an exact floor the offsets are equal, and anywhere else one apart
+  pub offsets-same : Reached (natAbs component * radius) q → offsetOf Down component radius q ≡ offsetOf Up component radius q
+  unfolding offsetOf
+  offsets-same e = rw (rounded-exact Down _ _ _ e, rounded-exact Up _ _ _ e)
+
+  pub offsets-apart : (Reached (natAbs component * radius) q → ⊥) → offsetOf Up component radius q ≡ offsetOf Down component radius q +ℤ pos 1
+  unfolding offsetOf
+  offsets-apart h =
+      rw (rounded-down _ _ _ h, rounded-up _ _ _ h) (one-above (isNegative component) (floorOver (natAbs component * radius) q))

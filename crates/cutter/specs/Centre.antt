@@ -1,5 +1,5 @@
 -- The cutter's centre at an inner point: the map point plus the rounded offsets. Assumes nothing.
-use Prim.Native.Nat.{ℕ, _*_}
+use Prim.Native.Nat.{ℕ, zero, suc, _*_}
 use mathlib.Core.List.{List, _++_}
 use lib.IntN.{ℤ, pos, negℤ, _+ℤ_}
 use Rattle.kinds.specs.declared.Mode.{Mode}
@@ -21,6 +21,12 @@ pub record Centre : Type 0 where
   pub x : ℤ
   pub y : ℤ
   pub z : ℤ
+
+-- the x, y or z of a centre (j is 0, 1 or 2)
+abbrev pub coordinate : Centre → ℕ → ℤ
+coordinate k zero = k .x
+coordinate k (suc zero) = k .y
+coordinate k (suc (suc j)) = k .z
 
 -- (column·step, row·step, height) plus the offsets −dx·radius/√Q, −dy·radius/√Q and 2·step·radius/√Q
 unfoldable pub centreOf : Mode → ℕ → ℕ → Point → Centre

@@ -5,5 +5,6 @@ pub mod Centre
 pub mod List
 pub mod Call
 pub mod Agree
+pub mod Held
 pub mod Accepted
 pub mod Rows

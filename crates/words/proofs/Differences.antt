@@ -8,7 +8,7 @@ use native.Mathlib.Decide.{decLe}
 use native.Mathlib.Omega.{arith}
 use borrow.Author.Tests.{lt-ltb, le-ltb, le-leb, lt-leb}
 use lib.Dec.{leb}
-use lib.IntN.{ℤ, pos, negsuc, negℤ, natAbs, subℕ, _+ℤ_, _-ℤ_}
+use lib.IntN.{ℤ, pos, negsuc, negℤ, natAbs, subℕ, _+ℤ_, _-ℤ_, negℤ-+ℤ, negℤ-negℤ, +ℤ-comm}
 use Rattle.words.specs.Signed.{signed, wordOf, withSign}
 use Rattle.words.specs.Parts.{partsOf}
 
@@ -91,6 +91,20 @@ pub abs-neg : (z : ℤ) → natAbs (negℤ z) ≡ natAbs z
 abs-neg (pos zero) = refl
 abs-neg (pos (suc n)) = refl
 abs-neg (negsuc n) = refl
+
+-- a difference the other way round
+pub neg-sub : (a b : ℤ) → negℤ (a -ℤ b) ≡ b -ℤ a
+neg-sub a b = negℤ-+ℤ a (negℤ b) ∙ ap (λ (z : ℤ). negℤ a +ℤ z) (negℤ-negℤ b) ∙ +ℤ-comm (negℤ a) b
+
+-- the magnitude of a sum or a difference is at most the sum of the magnitudes
+pub abs-add : (a b : ℤ) → natAbs (a +ℤ b) ≤ natAbs a + natAbs b
+abs-add (pos a) (pos b) = omega arith
+abs-add (pos a) (negsuc b) = omega (arith, diff-abs a (suc b))
+abs-add (negsuc a) (pos b) = omega (arith, diff-abs b (suc a))
+abs-add (negsuc a) (negsuc b) = omega arith
+
+pub abs-sub : (a b : ℤ) → natAbs (a -ℤ b) ≤ natAbs a + natAbs b
+abs-sub a b = omega (arith, abs-add a (negℤ b), abs-neg b)
 
 -- ---- words
 

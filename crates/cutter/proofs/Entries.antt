@@ -1,0 +1,79 @@
+-- What the lent buffer holds after an accepted call: each entry of the list is a coordinate of its centre. Assumes nothing.
+use mathlib.Core.Path.{_≡_, ap, _∙_}
+use mathlib.Core.List.{List, _++_, append-assoc}
+use Prim.Native.Nat.{ℕ, zero, suc, _+_, _*_, _<_}
+use native.Mathlib.Omega.{arith}
+use lib.ListN.{length, drop}
+use lib.IntN.{natAbs}
+use Rattle.kinds.specs.declared.Mode.{Mode}
+use Rattle.kinds.specs.Rounding.{modeOf}
+use Rattle.words.specs.Word.{wordAt}
+use Rattle.words.specs.Signed.{signed, wordOf}
+use Rattle.words.specs.Splice.{splice}
+use Rattle.words.specs.Joined.{joined}
+use Rattle.words.proofs.Differences.{word-small, signed-word}
+use Rattle.words.proofs.Splicing.{splice-take, splice-drop, three-back}
+use Rattle.words.proofs.Runs.{joined-word}
+use Rattle.trailer.specs.Bytes.{trailerBytes}
+use Rattle.trailer.specs.declared.Kind.the-variants.{Cut1}
+use Rattle.cutter.specs.Map.{widthOf, depthOf}
+use Rattle.cutter.specs.Centre.{Centre, coordinate, recordBytes}
+use Rattle.cutter.specs.List.{countOf, centreAt, recordAt, listFields, listLength, listBytes}
+use Rattle.cutter.specs.Call.{listRefusal, bufferAfter}
+use Rattle.cutter.specs.Agree.{entryAt}
+use Rattle.cutter.specs.Held.{ListHeld}
+use Rattle.cutter.proofs.Lengths.{length-record, length-list}
+use Rattle.cutter.proofs.Accepted.{accepted-of, map-asked, accepted-answer, accepted-buffer}
+use Rattle.cutter.proofs.Points.{centre-small}
+
+-- ---- one record
+
+-- coordinates of 32 bits are read again from their record
+pub record-entry : (k : Centre) → ((j : ℕ) → natAbs (coordinate k j) < 2147483648)
+    → (j : ℕ) → j < 3 → signed (wordAt (recordBytes k) (4 * j)) ≡ coordinate k j
+record-entry k h j l = ap signed (word-at j l) ∙ signed-word (coordinate k j) (h j)
+  where
+    words : (wordAt (recordBytes k) 0 ≡ wordOf (k .x)) × (wordAt (recordBytes k) 4 ≡ wordOf (k .y)) × (wordAt (recordBytes k) 8 ≡ wordOf (k .z))
+    words = unfold recordBytes in three-back (wordOf (k .x)) (wordOf (k .y)) (wordOf (k .z)) (word-small (k .x) (h 0)) (word-small (k .y) (h 1)) (word-small (k .z) (h 2))
+
+    word-at : (j : ℕ) → j < 3 → wordAt (recordBytes k) (4 * j) ≡ wordOf (coordinate k j)
+    word-at zero l = words .0
+    word-at (suc zero) l = words .1
+    word-at (suc (suc zero)) l = words .2
+    word-at (suc (suc (suc j))) l = absurd (omega arith)
+
+-- ---- the buffer
+
+-- the word at byte 4·j of record n
+list-word : (mode : Mode) (m out : List ℕ) (n j : ℕ) → n < countOf (widthOf m) (depthOf m) → j < 3
+    → wordAt (splice 0 (listBytes mode m) out) (12 * n + 4 * j) ≡ wordAt (recordAt mode m n) (4 * j)
+unfolding splice listBytes
+list-word mode m out n j h l =
+    let c = countOf (widthOf m) (depthOf m) in
+    let f = recordAt mode m in
+    let t = trailerBytes Cut1 (listFields m) in
+    let rest = drop (0 + length (listBytes mode m)) out in
+    let place : 12 * n + 4 * j ≡ n * 12 + 4 * j = omega arith in
+    ap (wordAt (joined f c ++ t ++ rest)) place
+    ∙ ap (λ (s : List ℕ). wordAt s (n * 12 + 4 * j)) (append-assoc (joined f c) t rest)
+    ∙ joined-word f 12 (length-record mode m) c n (4 * j) (t ++ rest) h (omega arith)
+
+module _ (rounding : ℕ) (m out : List ℕ) (e : listRefusal rounding m (length out) ≡ 0) where
+  -- entry j of record n
+  entry-is : (n j : ℕ) → n < countOf (widthOf m) (depthOf m) → j < 3
+      → entryAt (bufferAfter rounding m out) n j ≡ coordinate (centreAt (modeOf rounding) m n) j
+  unfolding recordAt
+  entry-is n j h l =
+      ap (λ (s : List ℕ). entryAt s n j) (accepted-buffer rounding m out e)
+      ∙ ap signed (list-word (modeOf rounding) m out n j h l)
+      ∙ record-entry (centreAt (modeOf rounding) m n) (centre-small m (accepted-of m (length out) (map-asked rounding m (length out) e)) (modeOf rounding) n h) j l
+
+  -- what an accepted call leaves
+  pub list-held : ListHeld rounding m out
+  list-held =
+      record {
+        reported = accepted-answer rounding m (length out) e;
+        front = rw (accepted-buffer rounding m out e, ← length-list (modeOf rounding) m) (splice-take (listBytes (modeOf rounding) m) out);
+        behind = rw (accepted-buffer rounding m out e, ← length-list (modeOf rounding) m) (splice-drop (listBytes (modeOf rounding) m) out);
+        entry = entry-is;
+      }

@@ -1,0 +1,119 @@
+-- The points of an accepted map and their centres: the three coordinates alike, and how large they are. Assumes nothing.
+use mathlib.Core.Path.{_≡_, refl}
+use mathlib.Core.List.{List}
+use Prim.Native.Nat.{ℕ, zero, suc, _+_, _-_, _*_, _≤_, _<_}
+use native.Mathlib.Nat.{mul-le-mul, mul-pos}
+use native.Mathlib.Omega.{arith}
+use lib.Dec.{lit<}
+use lib.IntN.{ℤ, pos, negℤ, natAbs, _+ℤ_, _-ℤ_}
+use Rattle.kinds.specs.declared.Mode.{Mode}
+use Rattle.words.proofs.Differences.{abs-neg, abs-add, abs-sub}
+use Rattle.cutter.specs.Limits.{sideMost, heightMost}
+use Rattle.cutter.specs.Offset.{squaredLength, offsetOf}
+use Rattle.cutter.specs.Map.{Inner, widthOf, depthOf, stepOf, radiusOf, heightAt, dxAt, dyAt}
+use Rattle.cutter.specs.Centre.{Point, Centre, coordinate, centreOf, pointAt}
+use Rattle.cutter.specs.List.{countOf, columnOf, rowOf, innerPoint, centreAt}
+use Rattle.cutter.specs.Accepted.{Steps, Accepted}
+use Rattle.cutter.proofs.Offsets.{offset-most}
+use Rattle.cutter.proofs.Places.{inside, inner-at}
+
+-- what is known of the step, the radius and a point of an accepted map
+pub record InRange (step radius : ℕ) (p : Point) : Type 0 where
+  pub steps : Steps step radius
+  pub column-to : p .column ≤ sideMost
+  pub row-to : p .row ≤ sideMost
+  pub height-to : natAbs (p .height) ≤ heightMost
+  pub dx-to : natAbs (p .dx) ≤ 2 * heightMost
+  pub dy-to : natAbs (p .dy) ≤ 2 * heightMost
+
+-- ---- the three coordinates alike
+
+-- the coordinates of the map point
+abbrev pub pointAlong : ℕ → Point → ℕ → ℤ
+pointAlong step p zero = pos (p .column * step)
+pointAlong step p (suc zero) = pos (p .row * step)
+pointAlong step p (suc (suc j)) = p .height
+
+-- the components of the normal
+abbrev pub normalAlong : ℕ → Point → ℕ → ℤ
+normalAlong step p zero = negℤ (p .dx)
+normalAlong step p (suc zero) = negℤ (p .dy)
+normalAlong step p (suc (suc j)) = pos (2 * step)
+
+-- the squared length of the normal
+abbrev pub lengthAt : ℕ → Point → ℕ
+lengthAt step p = squaredLength (p .dx) (p .dy) step
+
+-- a coordinate of a centre is the map point's plus the offset
+pub coordinate-is : (mode : Mode) (step radius : ℕ) (p : Point) (j : ℕ)
+    → coordinate (centreOf mode step radius p) j ≡ pointAlong step p j +ℤ offsetOf mode (normalAlong step p j) radius (lengthAt step p)
+unfolding centreOf
+coordinate-is mode step radius p zero = refl
+coordinate-is mode step radius p (suc zero) = refl
+coordinate-is mode step radius p (suc (suc j)) = refl
+
+-- centres are equal where their three coordinates are
+pub same-centre : (a b : Centre) → ((j : ℕ) → j < 3 → coordinate a j ≡ coordinate b j) → a ≡ b
+same-centre a b h = λ i. record { x = h 0 (lit< tt) i; y = h 1 (lit< tt) i; z = h 2 (lit< tt) i }
+
+module _ (step radius : ℕ) (p : Point) (h : InRange step radius p) where
+  -- the normal is not 0
+  pub length-pos : 0 < lengthAt step p
+  length-pos = omega (arith, mul-pos (h .steps .step-least) (h .steps .step-least))
+
+  -- no component is longer than it
+  pub component-part : (j : ℕ) → natAbs (normalAlong step p j) * natAbs (normalAlong step p j) ≤ lengthAt step p
+  component-part zero = rw (abs-neg (p .dx)) (omega arith)
+  component-part (suc zero) = rw (abs-neg (p .dy)) (omega arith)
+  component-part (suc (suc j)) = omega arith
+
+  point-to : (j : ℕ) → natAbs (pointAlong step p j) ≤ 640000
+  point-to zero = omega (arith, mul-le-mul (h .column-to) (h .steps .step-most))
+  point-to (suc zero) = omega (arith, mul-le-mul (h .row-to) (h .steps .step-most))
+  point-to (suc (suc j)) = omega (arith, h .height-to)
+
+  -- every coordinate is a signed number of 32 bits
+  coordinate-small : (mode : Mode) (j : ℕ) → natAbs (coordinate (centreOf mode step radius p) j) < 2147483648
+  coordinate-small mode j =
+      let q = lengthAt step p in
+      let z = normalAlong step p j in
+      let o = offsetOf mode z radius q in
+      rw (coordinate-is mode step radius p j)
+      (omega (arith, abs-add (pointAlong step p j) o, point-to j, offset-most mode z radius q length-pos (component-part j), h .steps .radius-most))
+
+-- ---- an accepted map
+
+module _ (m : List ℕ) {room : ℕ} (a : Accepted m room) where
+  -- heights of the map are small, and their differences
+  height-small : (c q : ℕ) → c < widthOf m → q < depthOf m → natAbs (heightAt m (widthOf m) c q) ≤ heightMost
+  unfolding heightAt
+  height-small c q hc hq = a .heights .small (q * widthOf m + c) (inside (widthOf m) (depthOf m) c q hc hq)
+
+  apart-small : (c q k r : ℕ) → c < widthOf m → q < depthOf m → k < widthOf m → r < depthOf m
+      → natAbs (heightAt m (widthOf m) c q -ℤ heightAt m (widthOf m) k r) ≤ 2 * heightMost
+  apart-small c q k r hc hq hk hr =
+      omega (arith, abs-sub (heightAt m (widthOf m) c q) (heightAt m (widthOf m) k r), height-small c q hc hq, height-small k r hk hr)
+
+  -- the inner point n is in range
+  pub inner-in-range : (n : ℕ) → n < countOf (widthOf m) (depthOf m) → InRange (stepOf m) (radiusOf m) (innerPoint m n)
+  unfolding pointAt dxAt dyAt
+  inner-in-range n h =
+      let w = widthOf m in
+      let d = depthOf m in
+      let c = columnOf w n in
+      let q = rowOf w n in
+      let i : Inner w d c q = inner-at w d (a .sizes .wide) n h in
+      record {
+        steps = a .steps;
+        column-to = omega (arith, a .sizes .narrow);
+        row-to = omega (arith, a .sizes .shallow);
+        height-to = height-small c q (omega arith) (omega arith);
+        dx-to = apart-small (c + 1) q (c - 1) q (omega arith) (omega arith) (omega arith) (omega arith);
+        dy-to = apart-small c (q + 1) c (q - 1) (omega arith) (omega arith) (omega arith) (omega arith);
+      }
+
+  -- its centre has coordinates of 32 bits
+  pub centre-small : (mode : Mode) (n : ℕ) → n < countOf (widthOf m) (depthOf m)
+      → (j : ℕ) → natAbs (coordinate (centreAt mode m n) j) < 2147483648
+  unfolding centreAt
+  centre-small mode n h j = coordinate-small (stepOf m) (radiusOf m) (innerPoint m n) (inner-in-range n h) mode j
