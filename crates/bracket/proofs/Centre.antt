@@ -1,77 +1,20 @@
 -- One centre, rounded down and up: both are equal exactly where the point is exact, and a coordinate that differs is larger by one
 -- in the upper. Assumes nothing.
-use mathlib.Core.Path.{_≡_, refl, sym, ap, _∙_}
+use mathlib.Core.Path.{_≡_, sym, ap, _∙_}
 use mathlib.Core.Logic.{inl, inr}
-use mathlib.Core.Bool.{Bool, true, false, cond}
-use Prim.Native.Nat.{ℕ, zero, suc, _+_, _-_, _*_, _≤_, _<_}
-use native.Mathlib.Nat.{mul-le-mul, mul-pos}
+use Prim.Native.Nat.{ℕ, zero, suc, _*_}
+use native.Mathlib.Nat.{mul-pos}
 use native.Mathlib.Omega.{arith}
-use lib.Dec.{lit<, ltb}
-use lib.IntN.{ℤ, pos, negsuc, negℤ, natAbs, subℕ, _+ℤ_, +ℤ-assoc, +ℤ-invl, +ℤ-idl}
-use Rattle.kinds.specs.declared.Mode.{Mode}
+use lib.IntN.{ℤ, pos, negℤ, natAbs, _+ℤ_, +ℤ-assoc, +ℤ-invl, +ℤ-idl}
 use Rattle.kinds.specs.declared.Mode.the-variants.{Up, Down}
 use Rattle.numbers.proofs.Squares.{square-same}
 use Rattle.words.proofs.Differences.{abs-neg}
-use Rattle.cutter.specs.Offset.{squaredLength, offsetOf, MultipleOf}
-use Rattle.cutter.specs.Centre.{Point, Centre, centreOf}
+use Rattle.cutter.specs.Offset.{offsetOf, MultipleOf}
+use Rattle.cutter.specs.Centre.{Point, Centre, coordinate, centreOf}
 use Rattle.cutter.specs.Agree.{ExactAt}
-use Rattle.cutter.specs.Asked.{Steps}
-use Rattle.bracket.specs.Bracket.{WholeOver, coordinate, OffsetBracket, CentreBracket}
-use Rattle.bracket.proofs.Offset.{offset-small, offset-bracket}
-
--- what is known of the step, the radius and a point of an accepted map
-pub record InRange (step radius : ℕ) (p : Point) : Type 0 where
-  pub steps : Steps step radius
-  pub column-to : p .column ≤ 64
-  pub row-to : p .row ≤ 64
-  pub height-to : natAbs (p .height) ≤ 50000
-  pub dx-to : natAbs (p .dx) ≤ 100000
-  pub dy-to : natAbs (p .dy) ≤ 100000
-
--- ---- the three coordinates alike
-
--- the coordinates of the map point
-abbrev pub pointAlong : ℕ → Point → ℕ → ℤ
-pointAlong step p zero = pos (p .column * step)
-pointAlong step p (suc zero) = pos (p .row * step)
-pointAlong step p (suc (suc j)) = p .height
-
--- the components of the normal
-abbrev pub normalAlong : ℕ → Point → ℕ → ℤ
-normalAlong step p zero = negℤ (p .dx)
-normalAlong step p (suc zero) = negℤ (p .dy)
-normalAlong step p (suc (suc j)) = pos (2 * step)
-
--- the squared length of the normal
-abbrev pub lengthAt : ℕ → Point → ℕ
-lengthAt step p = squaredLength (p .dx) (p .dy) step
-
--- a coordinate of a centre is the map point's plus the offset
-pub coordinate-is : (mode : Mode) (step radius : ℕ) (p : Point) (j : ℕ)
-    → coordinate (centreOf mode step radius p) j ≡ pointAlong step p j +ℤ offsetOf mode (normalAlong step p j) radius (lengthAt step p)
-unfolding centreOf
-coordinate-is mode step radius p zero = refl
-coordinate-is mode step radius p (suc zero) = refl
-coordinate-is mode step radius p (suc (suc j)) = refl
-
--- centres are equal where their three coordinates are
-pub same-centre : (a b : Centre) → ((j : ℕ) → j < 3 → coordinate a j ≡ coordinate b j) → a ≡ b
-same-centre a b h = λ i. record { x = h 0 (lit< tt) i; y = h 1 (lit< tt) i; z = h 2 (lit< tt) i }
-
--- the magnitude of a difference of naturals is at most their sum
-abs-less : (a b : ℕ) → natAbs (subℕ a (suc b)) ≤ a + suc b
-abs-less a b = by-order (ltb a (suc b))
-  where
-    by-order : (t : Bool) → natAbs (cond t (negsuc (suc b - suc a)) (pos (a - suc b))) ≤ a + suc b
-    by-order true = omega arith
-    by-order false = omega arith
-
--- so the magnitude of a sum is at most the sum of the magnitudes
-pub abs-add : (a b : ℤ) → natAbs (a +ℤ b) ≤ natAbs a + natAbs b
-abs-add (pos a) (pos b) = omega arith
-abs-add (pos a) (negsuc b) = abs-less a b
-abs-add (negsuc a) (pos b) = omega (arith, abs-less b a)
-abs-add (negsuc a) (negsuc b) = omega arith
+use Rattle.cutter.proofs.Points.{InRange, pointAlong, normalAlong, lengthAt, coordinate-is, same-centre, length-pos, component-part}
+use Rattle.bracket.specs.Bracket.{WholeOver, OffsetBracket, CentreBracket}
+use Rattle.bracket.proofs.Offset.{offset-bracket}
 
 -- a summand in front is cancelled
 cancel : (a x y : ℤ) → a +ℤ x ≡ a +ℤ y → x ≡ y
@@ -92,29 +35,6 @@ multiple-whole : (q n w : ℕ) → w * w ≡ q → MultipleOf w n → WholeOver 
 multiple-whole q n w s d = inr (record { root = w; square = s; multiple = d })
 
 module _ (step radius : ℕ) (p : Point) (h : InRange step radius p) where
-  -- the normal is not 0
-  length-pos : 0 < lengthAt step p
-  length-pos = omega (arith, mul-pos (h .steps .step-least) (h .steps .step-least))
-
-  -- each component times the radius, and each coordinate of the map point, is small
-  product-to : (j : ℕ) → natAbs (normalAlong step p j) * radius ≤ 1250000000
-  product-to zero = rw (abs-neg (p .dx)) (omega (arith, mul-le-mul (h .dx-to) (h .steps .radius-most)))
-  product-to (suc zero) = rw (abs-neg (p .dy)) (omega (arith, mul-le-mul (h .dy-to) (h .steps .radius-most)))
-  product-to (suc (suc j)) = omega (arith, mul-le-mul (h .steps .step-most) (h .steps .radius-most))
-
-  point-to : (j : ℕ) → natAbs (pointAlong step p j) ≤ 640000
-  point-to zero = omega (arith, mul-le-mul (h .column-to) (h .steps .step-most))
-  point-to (suc zero) = omega (arith, mul-le-mul (h .row-to) (h .steps .step-most))
-  point-to (suc (suc j)) = omega (arith, h .height-to)
-
-  -- every coordinate is a signed number of 32 bits
-  pub coordinate-small : (mode : Mode) (j : ℕ) → natAbs (coordinate (centreOf mode step radius p) j) < 2147483648
-  coordinate-small mode j =
-      let q = lengthAt step p in
-      let o = offsetOf mode (normalAlong step p j) radius q in
-      rw (coordinate-is mode step radius p j)
-      (omega (arith, abs-add (pointAlong step p j) o, point-to j, offset-small (normalAlong step p j) radius q mode length-pos, product-to j))
-
   -- the lower and the upper coordinates
   abbrev low : ℕ → ℤ
   low j = coordinate (centreOf Down step radius p) j
@@ -128,7 +48,9 @@ module _ (step radius : ℕ) (p : Point) (h : InRange step radius p) where
 
   -- the bracket of each offset
   along : (j : ℕ) → OffsetBracket (normalAlong step p j) radius (lengthAt step p)
-  along j = offset-bracket (normalAlong step p j) radius (lengthAt step p) length-pos (omega (arith, product-to j))
+  along j =
+      offset-bracket (normalAlong step p j) radius (lengthAt step p) (length-pos step radius p h) (component-part step radius p h j)
+      (omega (arith, h .steps .radius-most))
 
   -- coordinates are equal where the offsets are
   same-along : (j : ℕ)

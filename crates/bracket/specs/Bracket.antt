@@ -1,17 +1,16 @@
 -- Down and up for an offset, a centre and a list: where the lower and the upper agree, and how far apart they are. Assumes nothing.
-use Prim.Native.Nat.{ℕ, zero, suc, _*_, _<_}
+use Prim.Native.Nat.{ℕ, _*_, _<_}
 use mathlib.Core.Path.{_≡_}
 use mathlib.Core.Logic.{_↔_, _⊎_}
 use mathlib.Core.List.{List}
-use lib.ListN.{length, take, drop}
+use lib.ListN.{take}
 use lib.IntN.{ℤ, pos, natAbs, _+ℤ_}
 use Rattle.kinds.specs.declared.Mode.the-variants.{Up, Down}
-use Rattle.kinds.specs.Rounding.{modeOf}
 use Rattle.cutter.specs.Offset.{offsetOf, MultipleOf}
 use Rattle.cutter.specs.Map.{widthOf, depthOf}
-use Rattle.cutter.specs.Centre.{Point, Centre, centreOf}
-use Rattle.cutter.specs.List.{countOf, centreAt, listLength, listBytes}
-use Rattle.cutter.specs.Call.{listAnswer, bufferAfter}
+use Rattle.cutter.specs.Centre.{Point, coordinate, centreOf}
+use Rattle.cutter.specs.List.{countOf, listLength}
+use Rattle.cutter.specs.Call.{bufferAfter}
 use Rattle.cutter.specs.Agree.{ExactAt, ExactMap, entryAt}
 
 -- q is a perfect square whose root divides n
@@ -31,27 +30,12 @@ pub record OffsetBracket (component : ℤ) (radius q : ℕ) : Type 0 where
       (offsetOf Down component radius q ≡ offsetOf Up component radius q → ⊥)
       → offsetOf Up component radius q ≡ offsetOf Down component radius q +ℤ pos 1
 
--- the x, y or z of a centre (j is 0, 1 or 2)
-abbrev pub coordinate : Centre → ℕ → ℤ
-coordinate k zero = k .x
-coordinate k (suc zero) = k .y
-coordinate k (suc (suc j)) = k .z
-
 -- One centre: the lower and the upper are equal exactly where the point is exact; a coordinate that differs is larger by 1 in the upper
 pub record CentreBracket (step radius : ℕ) (p : Point) : Type 0 where
   pub equal : (centreOf Down step radius p ≡ centreOf Up step radius p) ↔ ExactAt step radius p
   pub next : (j : ℕ)
       → (coordinate (centreOf Down step radius p) j ≡ coordinate (centreOf Up step radius p) j → ⊥)
       → coordinate (centreOf Up step radius p) j ≡ coordinate (centreOf Down step radius p) j +ℤ pos 1
-
--- After an accepted call: the length reported is the list's; the list stands at the buffer's front, entry j of record n being
--- coordinate j of the centre n, and the caller's bytes stand behind it
-pub record ListHeld (rounding : ℕ) (m out : List ℕ) : Type 0 where
-  pub reported : listAnswer rounding m (length out) ≡ listLength m
-  pub front : take (listLength m) (bufferAfter rounding m out) ≡ listBytes (modeOf rounding) m
-  pub behind : drop (listLength m) (bufferAfter rounding m out) ≡ drop (listLength m) out
-  pub entry : (n j : ℕ) → n < countOf (widthOf m) (depthOf m) → j < 3
-      → entryAt (bufferAfter rounding m out) n j ≡ coordinate (centreAt (modeOf rounding) m n) j
 
 -- Two lists of one map, rounded down (2) over a lent buffer a and up (1) over b: byte for byte, over the length reported, they are
 -- equal exactly where the map is exact at every inner point; of two entries that differ, the upper is larger by one micrometre

@@ -1,5 +1,5 @@
 -- What the lent buffer holds after an accepted call: each entry of the list is a coordinate of its centre. Assumes nothing.
-use mathlib.Core.Path.{_≡_, ap, _∙_}
+use mathlib.Core.Path.{_≡_, sym, ap, _∙_}
 use mathlib.Core.List.{List, _++_, append-assoc}
 use Prim.Native.Nat.{ℕ, zero, suc, _+_, _*_, _<_}
 use native.Mathlib.Omega.{arith}
@@ -13,7 +13,7 @@ use Rattle.words.specs.Splice.{splice}
 use Rattle.words.specs.Joined.{joined}
 use Rattle.words.proofs.Differences.{word-small, signed-word}
 use Rattle.words.proofs.Splicing.{splice-take, splice-drop, three-back}
-use Rattle.words.proofs.Runs.{joined-word}
+use Rattle.words.proofs.Runs.{joined-same, joined-apart, joined-word}
 use Rattle.trailer.specs.Bytes.{trailerBytes}
 use Rattle.trailer.specs.declared.Kind.the-variants.{Cut1}
 use Rattle.cutter.specs.Map.{widthOf, depthOf}
@@ -22,9 +22,10 @@ use Rattle.cutter.specs.List.{countOf, centreAt, recordAt, listFields, l
 use Rattle.cutter.specs.Call.{listRefusal, bufferAfter}
 use Rattle.cutter.specs.Agree.{entryAt}
 use Rattle.cutter.specs.Held.{ListHeld}
+use Rattle.cutter.specs.Accepted.{Accepted}
 use Rattle.cutter.proofs.Lengths.{length-record, length-list}
 use Rattle.cutter.proofs.Accepted.{accepted-of, map-asked, accepted-answer, accepted-buffer}
-use Rattle.cutter.proofs.Points.{centre-small}
+use Rattle.cutter.proofs.Points.{same-centre, centre-small}
 
 -- ---- one record
 
@@ -41,6 +42,30 @@ record-entry k h j l = ap signed (word-at j l) ∙ signed-word (coordinate k j) 
     word-at (suc zero) l = words .1
     word-at (suc (suc zero)) l = words .2
     word-at (suc (suc (suc j))) l = absurd (omega arith)
+
+-- ---- two lists of a map
+
+module _ (a b : Mode) (m : List ℕ) where
+  -- the same bytes come from the same centres
+  pub same-centres : {room : ℕ} → Accepted m room → listBytes a m ≡ listBytes b m
+      → (n : ℕ) → n < countOf (widthOf m) (depthOf m) → centreAt a m n ≡ centreAt b m n
+  unfolding listBytes recordAt
+  same-centres s e n h =
+      let r : recordBytes (centreAt a m n) ≡ recordBytes (centreAt b m n) =
+      joined-apart (recordAt a m) (recordAt b m) 12 (length-record a m) (length-record b m) (countOf (widthOf m) (depthOf m)) _ _ e n h in
+      same-centre (centreAt a m n) (centreAt b m n)
+      (λ j l.
+      sym (record-entry (centreAt a m n) (centre-small m s a n h) j l)
+      ∙ ap (λ (x : List ℕ). signed (wordAt x (4 * j))) r
+      ∙ record-entry (centreAt b m n) (centre-small m s b n h) j l)
+
+  -- and the same centres give the same bytes
+  pub same-bytes : ((n : ℕ) → n < countOf (widthOf m) (depthOf m) → centreAt a m n ≡ centreAt b m n) → listBytes a m ≡ listBytes b m
+  unfolding listBytes recordAt
+  same-bytes e =
+      let c = countOf (widthOf m) (depthOf m) in
+      ap (λ (s : List ℕ). s ++ trailerBytes Cut1 (listFields m))
+      (joined-same (recordAt a m) (recordAt b m) c (λ n h. ap recordBytes (e n h)))
 
 -- ---- the buffer
 

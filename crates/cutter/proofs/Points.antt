@@ -83,6 +83,11 @@ module _ (step radius : ℕ) (p : Point) (h : InRange step radius p) where
 
 -- ---- an accepted map
 
+-- the centre of record n is that of its point
+pub centre-at : (mode : Mode) (m : List ℕ) (n : ℕ) → centreAt mode m n ≡ centreOf mode (stepOf m) (radiusOf m) (innerPoint m n)
+unfolding centreAt
+centre-at mode m n = refl
+
 module _ (m : List ℕ) {room : ℕ} (a : Accepted m room) where
   -- heights of the map are small, and their differences
   height-small : (c q : ℕ) → c < widthOf m → q < depthOf m → natAbs (heightAt m (widthOf m) c q) ≤ heightMost
@@ -115,5 +120,5 @@ module _ (m : List ℕ) {room : ℕ} (a : Accepted m room) where
   -- its centre has coordinates of 32 bits
   pub centre-small : (mode : Mode) (n : ℕ) → n < countOf (widthOf m) (depthOf m)
       → (j : ℕ) → natAbs (coordinate (centreAt mode m n) j) < 2147483648
-  unfolding centreAt
-  centre-small mode n h j = coordinate-small (stepOf m) (radiusOf m) (innerPoint m n) (inner-in-range n h) mode j
+  centre-small mode n h j =
+      rw (centre-at mode m n) (coordinate-small (stepOf m) (radiusOf m) (innerPoint m n) (inner-in-range n h) mode j)

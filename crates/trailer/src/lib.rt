@@ -58,6 +58,14 @@ pub fn layout_of(kind: Kind) -> Layout
     }
 }
 
+// How many bytes a trailer of a kind has.
+pub fn length_of(kind: Kind) -> usize
+    ensures { λ r. ⌜ r ≡ lengthOf kind ⌝ }
+{
+    let layout = layout_of(kind);
+    layout.length
+}
+
 // Puts the letters and the fields up to the step, which every kind has alike.
 fn put_front(out: &mut [u8], at: usize, letters: [u8; 4], fields: Fields)
     requires { ⌜ at + 14 ≤ length (now out) ⌝ }
