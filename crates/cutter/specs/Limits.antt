@@ -1,5 +1,5 @@
 -- The limits of a map's numbers; lengths are micrometres. Assumes nothing.
-use Prim.Native.Nat.{ℕ}
+use Prim.Native.Nat.{ℕ, _*_}
 
 -- a map has 16 bytes or more
 abbrev pub bytesLeast : ℕ
@@ -23,3 +23,7 @@ radiusMost = 12500
 -- a height is from −50,000 to 50,000
 abbrev pub heightMost : ℕ
 heightMost = 50000
+
+-- so that two heights differ by 100,000 at most
+abbrev pub differenceMost : ℕ
+differenceMost = 2 * heightMost

@@ -3,3 +3,4 @@ pub mod Directed
 pub mod Ties
 pub mod Questions
 pub mod Places
+pub mod Halves

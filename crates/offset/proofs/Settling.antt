@@ -12,98 +12,44 @@ use mir.Syntax.{w64}
 use mir.Val.{Fits}
 use Rattle.kinds.specs.declared.Mode.{Mode}
 use Rattle.kinds.specs.declared.Mode.the-variants.{Nearest, Up, Down, TowardZero}
-use Rattle.kinds.specs.Rounding.{modeOf, away, roundedBy}
-use Rattle.kinds.specs.Guard.{placeOf}
+use Rattle.kinds.specs.Rounding.{roundedBy}
+use Rattle.kinds.specs.Guard.{placeOf, restOf}
+use Rattle.kinds.proofs.Halves.{zero-stays, up-stays, down-stays, down-as-up, up-exact, up-below, up-odd, nearest-even, nearest-above, nearest-half, nearest-rest, up-rest, down-rest, zero-rest}
 use Rattle.cutter.specs.Offset.{roundedOver}
-use Rattle.offset.specs.Inverse.{InverseOf, DoubledOver, Ranges, Sizes}
-use Rattle.offset.specs.Settled.{restOf, stepped, settledBy}
+use Rattle.cutter.specs.Limits.{radiusMost}
+use Rattle.offset.specs.Inverse.{InverseOf, QuotientRange}
+use Rattle.offset.specs.Settled.{takenBy, settledBy}
 use Rattle.offset.proofs.Start.{start-below, start-above, start-most}
-use Rattle.offset.proofs.Places.{rounded-is, offset-sizes, offset-most}
+use Rattle.offset.proofs.Places.{DoubledOver, rounded-is}
 
 -- the test, where 2n over √q is known by its floor and what is left
 module _ (n q floor left : ℕ) (pos : 0 < q) (doubled : DoubledOver n q floor left) (t m tie : ℕ) where
   -- below the floor, or at it where something is left or a tie counts
-  goes-below : m < floor → stepped t m tie n q ≡ t + 1
-  unfolding stepped
+  goes-below : m < floor → takenBy t m tie n q ≡ t + 1
+  unfolding takenBy
   goes-below h =
       let e : m * m * q < 4 * (n * n) + tie = omega (arith, doubled .whole, mul-le-mul-right q (mul-le-mul h h)) in
       simp (lt-ltb (m * m * q) (4 * (n * n) + tie) e)
 
-  goes-at : m ≡ floor → 0 < left + tie → stepped t m tie n q ≡ t + 1
-  unfolding stepped
+  goes-at : m ≡ floor → 0 < left + tie → takenBy t m tie n q ≡ t + 1
+  unfolding takenBy
   goes-at e h =
       let w : m * m * q + left ≡ 4 * (n * n) = subst (λ (x : ℕ). x * x * q + left ≡ 4 * (n * n)) (sym e) (doubled .whole) in
       let g : m * m * q < 4 * (n * n) + tie = omega arith in
       simp (lt-ltb (m * m * q) (4 * (n * n) + tie) g)
 
-  stays-above : floor < m → tie ≤ 1 → stepped t m tie n q ≡ t
-  unfolding stepped
+  stays-above : floor < m → tie ≤ 1 → takenBy t m tie n q ≡ t
+  unfolding takenBy
   stays-above h k =
       let e : 4 * (n * n) + tie ≤ m * m * q = omega (arith, doubled .whole, doubled .last, mul-le-mul-right q (mul-le-mul h h)) in
       simp (le-ltb (m * m * q) (4 * (n * n) + tie) e)
 
-  stays-at : m ≡ floor → left + tie ≡ 0 → stepped t m tie n q ≡ t
-  unfolding stepped
+  stays-at : m ≡ floor → left + tie ≡ 0 → takenBy t m tie n q ≡ t
+  unfolding takenBy
   stays-at e h =
       let w : m * m * q + left ≡ 4 * (n * n) = subst (λ (x : ℕ). x * x * q + left ≡ 4 * (n * n)) (sym e) (doubled .whole) in
       let g : 4 * (n * n) + tie ≤ m * m * q = omega arith in
       simp (le-ltb (m * m * q) (4 * (n * n) + tie) g)
-
--- what a rounding does at a place
-module _ (t : ℕ) where
-  zero-stays : (negative a b : Bool) → roundedBy TowardZero negative t (placeOf a b) ≡ t
-  unfolding roundedBy away
-  zero-stays negative false false = refl
-  zero-stays negative false true = refl
-  zero-stays negative true false = refl
-  zero-stays negative true true = refl
-
-  up-stays : (a b : Bool) → roundedBy Up true t (placeOf a b) ≡ t
-  unfolding roundedBy away
-  up-stays false false = refl
-  up-stays false true = refl
-  up-stays true false = refl
-  up-stays true true = refl
-
-  down-stays : (a b : Bool) → roundedBy Down false t (placeOf a b) ≡ t
-  unfolding roundedBy away
-  down-stays false false = refl
-  down-stays false true = refl
-  down-stays true false = refl
-  down-stays true true = refl
-
-  down-as-up : (a b : Bool) → roundedBy Up false t (placeOf a b) ≡ roundedBy Down true t (placeOf a b)
-  unfolding roundedBy away
-  down-as-up false false = refl
-  down-as-up false true = refl
-  down-as-up true false = refl
-  down-as-up true true = refl
-
-  up-exact : t ≡ roundedBy Up false t (placeOf false false)
-  unfolding roundedBy away
-  up-exact = refl
-
-  up-below : suc t ≡ roundedBy Up false t (placeOf false true)
-  unfolding roundedBy away
-  up-below = refl
-
-  up-odd : (b : Bool) → suc t ≡ roundedBy Up false t (placeOf true b)
-  unfolding roundedBy away
-  up-odd false = refl
-  up-odd true = refl
-
-  nearest-even : (negative b : Bool) → t ≡ roundedBy Nearest negative t (placeOf false b)
-  unfolding roundedBy away
-  nearest-even negative false = refl
-  nearest-even negative true = refl
-
-  nearest-above : (negative : Bool) → suc t ≡ roundedBy Nearest negative t (placeOf true true)
-  unfolding roundedBy away
-  nearest-above negative = refl
-
-  nearest-half : (negative : Bool) → cond (eqb (t % 2) 1) (suc t) t ≡ roundedBy Nearest negative t (placeOf true false)
-  unfolding roundedBy away
-  nearest-half negative = refl
 
 -- from a start that is the floor or one below it
 module _ (n q floor left start : ℕ) (pos : 0 < q) (doubled : DoubledOver n q floor left) (low : start ≤ floor) (high : floor ≤ start + 1) where
@@ -219,13 +165,13 @@ record Found (mode : Mode) (negative : Bool) (n q r : ℕ) : Type 0 where
   doubled : DoubledOver n q floor left
   is : r ≡ roundedBy mode negative (floor / 2) (placeOf (eqb (floor % 2) 1) (not (eqb left 0)))
 
-module _ (mode : Mode) (negative : Bool) (low shift n q r : ℕ) (sizes : Sizes n q) (inverse : InverseOf q low shift)
+module _ (mode : Mode) (negative : Bool) (low shift n q r : ℕ) (ranges : QuotientRange n q) (inverse : InverseOf q low shift)
     (e : r ≡ settledBy (restOf mode negative) (n * low / 2 ^ shift) n q) where
   found : Found mode negative n q r
   found =
       let s : ℕ = n * low / 2 ^ shift in
-      let b : s * s * q ≤ 4 * (n * n) = start-below n q sizes low shift inverse in
-      let a : 4 * (n * n) < (s + 2) * (s + 2) * q = start-above n q sizes low shift inverse in
+      let b : s * s * q ≤ 4 * (n * n) = start-below n q ranges low shift inverse in
+      let a : 4 * (n * n) < (s + 2) * (s + 2) * q = start-above n q ranges low shift inverse in
       by-cases (decLe ((s + 1) * (s + 1) * q) (4 * (n * n)))
       (λ h.
       let left : ℕ = 4 * (n * n) - (s + 1) * (s + 1) * q in
@@ -234,7 +180,7 @@ module _ (mode : Mode) (negative : Bool) (low shift n q r : ℕ) (sizes : Sizes 
         floor = s + 1;
         left = left;
         doubled = d;
-        is = e ∙ settled-at n q (s + 1) left s (sizes .least) d (omega arith) (omega arith) mode negative;
+        is = e ∙ settled-at n q (s + 1) left s (ranges .least) d (omega arith) (omega arith) mode negative;
       })
       (λ h.
       let left : ℕ = 4 * (n * n) - s * s * q in
@@ -243,60 +189,37 @@ module _ (mode : Mode) (negative : Bool) (low shift n q r : ℕ) (sizes : Sizes 
         floor = s;
         left = left;
         doubled = d;
-        is = e ∙ settled-at n q s left s (sizes .least) d (omega arith) (omega arith) mode negative;
+        is = e ∙ settled-at n q s left s (ranges .least) d (omega arith) (omega arith) mode negative;
       })
 
   pub settled-is : r ≡ roundedOver mode negative n q
-  settled-is = rounded-is n q (found .floor) (found .left) sizes (found .doubled) mode negative r (found .is)
+  settled-is = rounded-is n q (found .floor) (found .left) ranges (found .doubled) mode negative r (found .is)
 
--- an offset is not longer than the radius
-pub settled-most : (mode : Mode) (negative : Bool) (low shift component radius q r : ℕ) → Ranges component radius q → InverseOf q low shift
-    → r ≡ settledBy (restOf mode negative) (component * radius * low / 2 ^ shift) (component * radius) q → r ≤ radius
-settled-most mode negative low shift component radius q r ranges inverse e =
-    let f = found mode negative low shift (component * radius) q r (offset-sizes component radius q ranges) inverse e in
-    offset-most component radius q ranges (f .floor) (f .left) (f .doubled) mode negative r (f .is)
+-- ---- each rounding by its own rest
+
+module _ (mode : Mode) (negative : Bool) (start n q x : ℕ) where
+  by-rest : (rest : ℕ) → rest ≡ restOf mode negative → x ≡ settledBy rest start n q → x ≡ settledBy (restOf mode negative) start n q
+  by-rest rest z e = e ∙ ap (λ (y : ℕ). settledBy y start n q) z
+
+  pub by-nearest : mode ≡ Nearest → x ≡ settledBy 1 start n q → x ≡ settledBy (restOf mode negative) start n q
+  by-nearest z e = by-rest 1 (nearest-rest negative ∙ ap (λ (m : Mode). restOf m negative) (sym z)) e
+
+  pub by-up : (rest : ℕ) → mode ≡ Up → rest ≡ cond negative 2 0 → x ≡ settledBy rest start n q
+      → x ≡ settledBy (restOf mode negative) start n q
+  by-up rest z d e = by-rest rest (d ∙ up-rest negative ∙ ap (λ (m : Mode). restOf m negative) (sym z)) e
+
+  pub by-down : (rest : ℕ) → mode ≡ Down → rest ≡ cond (not negative) 2 0 → x ≡ settledBy rest start n q
+      → x ≡ settledBy (restOf mode negative) start n q
+  by-down rest z d e = by-rest rest (d ∙ down-rest negative ∙ ap (λ (m : Mode). restOf m negative) (sym z)) e
+
+  pub by-zero : mode ≡ TowardZero → x ≡ settledBy 2 start n q → x ≡ settledBy (restOf mode negative) start n q
+  by-zero z e = by-rest 2 (zero-rest negative ∙ ap (λ (m : Mode). restOf m negative) (sym z)) e
 
 -- ---- the code's numbers
 
-up-rest : (b : Bool) → cond b 2 0 ≡ restOf Up b
-unfolding restOf
-up-rest true = refl
-up-rest false = refl
-
-down-rest : (b : Bool) → cond (not b) 2 0 ≡ restOf Down b
-unfolding restOf
-down-rest true = refl
-down-rest false = refl
-
-module _ (r : ℕ) (negative : Bool) (start n q x : ℕ) where
-  by-rest : (rest : ℕ) → rest ≡ restOf (modeOf r) negative → x ≡ settledBy rest start n q
-      → x ≡ settledBy (restOf (modeOf r) negative) start n q
-  by-rest rest z e = e ∙ ap (λ (y : ℕ). settledBy y start n q) z
-
-  by-number : (k rest : ℕ) → r ≡ k → rest ≡ restOf (modeOf k) negative → x ≡ settledBy rest start n q
-      → x ≡ settledBy (restOf (modeOf r) negative) start n q
-  by-number k rest z d e = by-rest rest (d ∙ ap (λ (y : ℕ). restOf (modeOf y) negative) (sym z)) e
-
-  pub by-nearest : r ≡ 0 → x ≡ settledBy 1 start n q → x ≡ settledBy (restOf (modeOf r) negative) start n q
-  unfolding restOf
-  by-nearest z e = by-number 0 1 z refl e
-
-  pub by-up : (rest : ℕ) → r ≡ 1 → rest ≡ cond negative 2 0 → x ≡ settledBy rest start n q
-      → x ≡ settledBy (restOf (modeOf r) negative) start n q
-  by-up rest z d e = by-number 1 rest z (d ∙ up-rest negative) e
-
-  pub by-down : (rest : ℕ) → r ≡ 2 → rest ≡ cond (not negative) 2 0 → x ≡ settledBy rest start n q
-      → x ≡ settledBy (restOf (modeOf r) negative) start n q
-  by-down rest z d e = by-number 2 rest z (d ∙ down-rest negative) e
-
-  pub by-last : (r ≡ 0 → ⊥) → (r ≡ 1 → ⊥) → (r ≡ 2 → ⊥) → x ≡ settledBy 2 start n q
-      → x ≡ settledBy (restOf (modeOf r) negative) start n q
-  unfolding restOf
-  by-last a b c e = by-rest 2 (simp (ne-eqb r 0 a, ne-eqb r 1 b, ne-eqb r 2 c)) e
-
-module _ (rest start n q : ℕ) (most : rest ≤ 2) (sizes : Sizes n q) (below : start * start * q ≤ 4 * (n * n)) where
-  start-small : start ≤ 25000
-  start-small = start-most n q sizes start below
+module _ (rest start n q : ℕ) (most : rest ≤ 2) (ranges : QuotientRange n q) (below : start * start * q ≤ 4 * (n * n)) where
+  start-small : start ≤ 2 * radiusMost
+  start-small = start-most n q ranges start below
 
   m-most : 2 * ((start + (2 - rest) / 2) / 2) + rest ≤ start + 2
   m-most = omega arith
@@ -318,18 +241,18 @@ module _ (rest start n q : ℕ) (most : rest ≤ 2) (sizes : Sizes n q) (below :
       omega (
         arith,
         mul-le-mul-right q (mul-le-mul m-most m-most),
-        mul-le-mul start-small (sizes .most),
-        mul-le-mul (sizes .product-most) (sizes .product-most),
-        sizes .most,
+        mul-le-mul start-small (ranges .most),
+        mul-le-mul (ranges .product-most) (ranges .product-most),
+        ranges .most,
       )
 
   pub limit-fits : Fits w64 (4 * (n * n) + (rest + (start + (2 - rest) / 2) / 2 % 2) / 2)
-  limit-fits = omega (arith, mul-le-mul (sizes .product-most) (sizes .product-most))
+  limit-fits = omega (arith, mul-le-mul (ranges .product-most) (ranges .product-most))
 
   pub settled-next : (2 * ((start + (2 - rest) / 2) / 2) + rest) * (2 * ((start + (2 - rest) / 2) / 2) + rest) * q
       < 4 * (n * n) + (rest + (start + (2 - rest) / 2) / 2 % 2) / 2
       → (start + (2 - rest) / 2) / 2 + 1 ≡ settledBy rest start n q
-  unfolding settledBy stepped
+  unfolding settledBy takenBy
   settled-next h =
       let t : ℕ = (start + (2 - rest) / 2) / 2 in
       let m : ℕ = 2 * t + rest in
@@ -338,7 +261,7 @@ module _ (rest start n q : ℕ) (most : rest ≤ 2) (sizes : Sizes n q) (below :
   pub settled-same : 4 * (n * n) + (rest + (start + (2 - rest) / 2) / 2 % 2) / 2
       ≤ (2 * ((start + (2 - rest) / 2) / 2) + rest) * (2 * ((start + (2 - rest) / 2) / 2) + rest) * q
       → (start + (2 - rest) / 2) / 2 ≡ settledBy rest start n q
-  unfolding settledBy stepped
+  unfolding settledBy takenBy
   settled-same h =
       let t : ℕ = (start + (2 - rest) / 2) / 2 in
       let m : ℕ = 2 * t + rest in

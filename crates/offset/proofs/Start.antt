@@ -9,7 +9,8 @@ use lib.Pow.{pow-pos}
 use mir.Syntax.{w64}
 use mir.Val.{Fits}
 use Rattle.numbers.proofs.Ring.{E, v, #, _⊕_, _⊗_, _⊙_⊑_, nlin, nlin×}
-use Rattle.offset.specs.Inverse.{InverseOf, Sizes, radiusMost}
+use Rattle.cutter.specs.Limits.{radiusMost}
+use Rattle.offset.specs.Inverse.{InverseOf, QuotientRange}
 
 abbrev vn : E
 vn = v 0
@@ -82,9 +83,9 @@ module _ (n q low w t : ℕ) where
       omega arith)
       (λ h. omega arith)
 
-module _ (n q : ℕ) (sizes : Sizes n q) where
+module _ (n q : ℕ) (ranges : QuotientRange n q) where
   pub limit-fits : Fits w64 (4 * (n * n))
-  limit-fits = omega (arith, mul-le-mul (sizes .product-most) (sizes .product-most))
+  limit-fits = omega (arith, mul-le-mul (ranges .product-most) (ranges .product-most))
 
   -- where t is not above 2n over √q
   module _ (t : ℕ) (below : t * t * q ≤ 4 * (n * n)) where
@@ -106,7 +107,7 @@ module _ (n q : ℕ) (sizes : Sizes n q) where
 
   module _ (low shift : ℕ) (inverse : InverseOf q low shift) where
     pub start-fits : Fits w64 (n * low)
-    start-fits = omega (arith, mul-le-mul (sizes .product-most) (inverse .most))
+    start-fits = omega (arith, mul-le-mul (ranges .product-most) (inverse .most))
 
     -- the start is not above 2n over √q
     pub start-below : n * low / 2 ^ shift * (n * low / 2 ^ shift) * q ≤ 4 * (n * n)
@@ -116,6 +117,6 @@ module _ (n q : ℕ) (sizes : Sizes n q) where
     -- and two more is above it
     pub start-above : 4 * (n * n) < (n * low / 2 ^ shift + 2) * (n * low / 2 ^ shift + 2) * q
     start-above =
-        high-enough n q low (2 ^ shift) (n * low / 2 ^ shift) (sizes .least) (lt-mul-div-succ (n * low) (pow-pos shift))
-        (fine n q low (2 ^ shift) 0 (inverse .least) (inverse .below) (sizes .ratio))
+        high-enough n q low (2 ^ shift) (n * low / 2 ^ shift) (ranges .least) (lt-mul-div-succ (n * low) (pow-pos shift))
+        (fine n q low (2 ^ shift) 0 (inverse .least) (inverse .below) (ranges .ratio))
         (inverse .above)

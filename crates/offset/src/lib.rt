@@ -1,13 +1,13 @@
 // An offset's magnitude, a component of the normal times the radius over the normal's length, as a whole number: an inverse root that
 // is a little too small gives a start, one test of squares decides.
-use kinds::Rounding;
+use kinds::Mode;
 ghost use mathlib.Core.Path.{_≡_};
 ghost use mathlib.Core.Bool.{cond};
 ghost use Prim.Native.Nat.{_*_, _^_, _≤_, _<_};
-ghost use Rattle.kinds.specs.Rounding.{modeOf};
+ghost use Rattle.kinds.specs.Guard.{restOf};
 ghost use Rattle.cutter.specs.Offset.{roundedOver};
-ghost use Rattle.offset.specs.Inverse.{InverseOf, Ranges, Sizes};
-ghost use Rattle.offset.specs.Settled.{restOf, settledBy};
+ghost use Rattle.offset.specs.Inverse.{InverseOf, ComponentRange, QuotientRange};
+ghost use Rattle.offset.specs.Settled.{settledBy};
 
 // 1 over √q from below, worked out once for a point: it is at least low over 2^(shift + 1), and at most (low + 32)
 // over that power.
@@ -34,34 +34,31 @@ pub fn inverse_of(q: u64) -> Inverse
 
 // The magnitude of an offset: component × radius over √q, rounded for the sign given.
 pub fn rounded_over(
-    rounding: Rounding,
+    mode: Mode,
     negative: bool,
     component: u64,
     radius: u64,
     q: u64,
     inverse: Inverse,
 ) -> u64
-    requires { ⌜ Ranges component radius q × InverseOf q (inverse .low) (inverse .shift) ⌝ }
-    ensures { λ r. ⌜ (r ≡ roundedOver (modeOf (rounding .0)) negative (component * radius) q) × (r ≤ radius) ⌝ }
+    requires { ⌜ ComponentRange component radius q × InverseOf q (inverse .low) (inverse .shift) ⌝ }
+    ensures { λ r. ⌜ (r ≡ roundedOver (mode) negative (component * radius) q) × (r ≤ radius) ⌝ }
 {
     let n = component * radius;
     let start = (n * inverse.low) >> inverse.shift;
-    settled_by(rounding, negative, start, n, q)
+    settled_by(mode, negative, start, n, q)
 }
 
 // The magnitude from a start, each rounding by its own rest: what it leaves of the way between two neighbours, in halves.
-fn settled_by(rounding: Rounding, negative: bool, start: u64, n: u64, q: u64) -> u64
-    requires { ⌜ Sizes n q × (start * start * q ≤ 4 * (n * n)) ⌝ }
-    ensures { λ r. ⌜ r ≡ settledBy (restOf (modeOf (rounding .0)) negative) start n q ⌝ }
+fn settled_by(mode: Mode, negative: bool, start: u64, n: u64, q: u64) -> u64
+    requires { ⌜ QuotientRange n q × (start * start * q ≤ 4 * (n * n)) ⌝ }
+    ensures { λ r. ⌜ r ≡ settledBy (restOf (mode) negative) start n q ⌝ }
 {
-    if rounding.0 == Rounding::NEAREST.0 {
-        settled(1, start, n, q)
-    } else if rounding.0 == Rounding::UP.0 {
-        settled(rest_if(negative), start, n, q)
-    } else if rounding.0 == Rounding::DOWN.0 {
-        settled(rest_if(!negative), start, n, q)
-    } else {
-        settled(2, start, n, q)
+    match mode {
+        Mode::Nearest => settled(1, start, n, q),
+        Mode::Up => settled(rest_if(negative), start, n, q),
+        Mode::Down => settled(rest_if(!negative), start, n, q),
+        Mode::TowardZero => settled(2, start, n, q),
     }
 }
 
@@ -76,7 +73,7 @@ fn rest_if(inward: bool) -> u64
 // 4·n² exactly, t + 1 is taken toward zero, and to the nearest where t + 1 is even.
 fn settled(rest: u64, start: u64, n: u64, q: u64) -> u64
     requires { ⌜ rest ≤ 2 ⌝ }
-    requires { ⌜ Sizes n q × (start * start * q ≤ 4 * (n * n)) ⌝ }
+    requires { ⌜ QuotientRange n q × (start * start * q ≤ 4 * (n * n)) ⌝ }
     ensures { λ r. ⌜ r ≡ settledBy rest start n q ⌝ }
 {
     let t = (start + (2 - rest) / 2) / 2;
