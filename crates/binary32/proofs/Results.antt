@@ -6,12 +6,10 @@ use native.Mathlib.Omega.{arith}
 use mathlib.Core.Bool.{Bool, not}
 use mathlib.Core.Logic.{by-cases}
 use native.Mathlib.Decide.{decLt}
-use borrow.Author.Tests.{ne-eqb}
 use lib.Dec.{eqb}
 use lib.Pow.{pow-pos}
 use Rattle.kinds.specs.declared.Op.{Op}
 use Rattle.kinds.specs.declared.Op.the-variants.{Reciprocal, Root, InverseRoot}
-use Rattle.kinds.specs.Operation.{opOf}
 use Rattle.significand.specs.Steps.{rawOf}
 use Rattle.significand.specs.Distance.{Near}
 use Rattle.significand.proofs.Accepted.{raw-near}
@@ -83,12 +81,13 @@ module _ (e x : ℕ) (s : Scaled) (h : Scaling (magnitudeOf binary32 (patternOf 
       neighbour-below InverseRoot _ _ _ _ n (scaled-pos _ s h)
       (inverse-guarded _ (s .significand) (s .exponent) (h .is) (h .low) (h .high) (h .small) r reached) i
 
--- the operation by its number
-pub below-first : (n e x : ℕ) (r : Neighbour) → n ≡ 1 → BelowResult Reciprocal e x r → BelowResult (opOf n) e x r
-below-first n e x r p b = rw p b
+-- the operation by its case
+module _ (op : Op) (e x : ℕ) (r : Neighbour) where
+  pub below-reciprocal : op ≡ Reciprocal → BelowResult Reciprocal e x r → BelowResult op e x r
+  below-reciprocal o b = rw o b
 
-pub below-second : (n e x : ℕ) (r : Neighbour) → n ≡ 2 → BelowResult Root e x r → BelowResult (opOf n) e x r
-below-second n e x r p b = rw p b
+  pub below-root : op ≡ Root → BelowResult Root e x r → BelowResult op e x r
+  below-root o b = rw o b
 
-pub below-third : {n : ℕ} → (n ≡ 1 → ⊥) → (n ≡ 2 → ⊥) → (e x : ℕ) (r : Neighbour) → BelowResult InverseRoot e x r → BelowResult (opOf n) e x r
-below-third {n} p q e x r b = simp (ne-eqb n 1 p, ne-eqb n 2 q) b
+  pub below-inverse-root : op ≡ InverseRoot → BelowResult InverseRoot e x r → BelowResult op e x r
+  below-inverse-root o b = rw o b

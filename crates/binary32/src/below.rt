@@ -1,25 +1,22 @@
 // The pattern below the exact result of each operation on a positive finite operand, through the raw unit.
 ghost use Rattle.kinds.specs.declared.Op.the-variants.{Reciprocal, Root, InverseRoot};
-ghost use Rattle.kinds.specs.Operation.{opOf};
 ghost use Rattle.floors.specs.Operand.{Ordinary};
 ghost use Rattle.binary32.specs.Below.{BelowResult};
 use floors::floor;
 use floors::operand::scale;
-use kinds::Operation;
+use kinds::Op;
 use pattern::neighbour::Neighbour;
 use pattern::neighbour::lower;
 
-pub fn below(operation: Operation, exponent: u32, fraction: u32) -> Neighbour
+pub fn below(op: Op, exponent: u32, fraction: u32) -> Neighbour
     requires { ⌜ Ordinary exponent fraction ⌝ }
-    ensures { λ r. ⌜ BelowResult (opOf (operation .0)) exponent fraction r ⌝ }
+    ensures { λ r. ⌜ BelowResult op exponent fraction r ⌝ }
 {
-    if operation.0 == Operation::RECIPROCAL.0 {
-        return reciprocal(exponent, fraction);
+    match op {
+        Op::Reciprocal => reciprocal(exponent, fraction),
+        Op::Root => root(exponent, fraction),
+        Op::InverseRoot => inverse_root(exponent, fraction),
     }
-    if operation.0 == Operation::ROOT.0 {
-        return root(exponent, fraction);
-    }
-    inverse_root(exponent, fraction)
 }
 
 // With X = y / 2^23 × 2^e, e = x.exponent − 149, the reciprocal is 1 / (y / 2^23) × 2^-e.

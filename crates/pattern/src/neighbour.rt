@@ -5,7 +5,6 @@ ghost use Prim.Native.Nat.{_-_, _^_, _≤_, _<_, min};
 ghost use Rattle.ieee.specs.Format.{binary32};
 ghost use Rattle.ieee.specs.Answer.{signed};
 ghost use Rattle.pattern.specs.Neighbour.{neighbourOf};
-use kinds::Flag;
 
 // The finite pattern below an exact result. The midpoint to the next is reached where `half` is true, and something lies above what
 // is reached where `more` is true. `beyond` says that the exact result is 2^128 or more.
@@ -47,10 +46,10 @@ fn least(a: u64, b: u64) -> u64
     if a <= b { a } else { b }
 }
 
-pub fn flag_if(on: bool, flag: Flag) -> u8
-    ensures { λ r. ⌜ (r ≡ cond on (flag .0) 0) × (r ≤ flag .0) ⌝ }
+pub fn flag_if(on: bool, flag: u8) -> u8
+    ensures { λ r. ⌜ (r ≡ cond on flag 0) × (r ≤ flag) ⌝ }
 {
-    if on { flag.0 } else { 0 }
+    if on { flag } else { 0 }
 }
 
 pub fn with_sign(sign: u32, t: u32) -> u32
