@@ -4,15 +4,26 @@ mod below;
 ghost use mathlib.Core.Path.{_≡_};
 ghost use Rattle.ieee.specs.Format.{binary32};
 ghost use Rattle.ieee.specs.Answer.{answerOf};
-ghost use Rattle.pattern.specs.Neighbour.{roundedAnswer};
+ghost use Rattle.ieee.specs.Call.{binary32Refusal};
+ghost use Rattle.pattern.specs.Answer.{roundedAnswer};
 use below::below;
 use kinds::Mode;
 use kinds::Op;
-pub use pattern::Rounded;
+use kinds::ask;
+pub use pattern::answer::Rounded;
 use pattern::parts::fields;
 use rounding::round;
 use special::is_special;
 use special::special;
+
+// The first of questions 1 and 2 that is answered "no", or 0.
+pub fn refusal(operation: u8, rounding: u8) -> u8
+    ensures { λ r. ⌜ r ≡ binary32Refusal operation rounding ⌝ }
+{
+    let known = Op::is_number(operation);
+    let second = ask(Mode::is_number(rounding), 2, 0);
+    ask(known, 1, second)
+}
 
 // An operation on a pattern.
 pub fn answer(op: Op, mode: Mode, bits: u32) -> Rounded

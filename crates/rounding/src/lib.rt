@@ -1,4 +1,6 @@
-// From the pattern below the exact result to the rounded pattern and its flags.
+// From a floor with a guard bit to the pattern below the exact result, and on to the rounded pattern and its flags.
+pub mod neighbour;
+
 ghost use mathlib.Core.Path.{_≡_};
 ghost use mathlib.Core.Bool.{cond};
 ghost use Prim.Native.Nat.{suc, _≤_, _<_};
@@ -7,10 +9,10 @@ ghost use Rattle.rounding.specs.Rounded.{roundedFrom};
 use kinds::Flags;
 use kinds::Mode;
 use kinds::goes_away;
-use pattern::Rounded;
-use pattern::neighbour::Neighbour;
-use pattern::neighbour::flag_if;
-use pattern::neighbour::with_sign;
+use neighbour::Neighbour;
+use pattern::answer::Rounded;
+use pattern::answer::flag_if;
+use pattern::answer::with_sign;
 
 // The neighbour that the rounding takes, with its sign, and the flags.
 pub fn round(mode: Mode, sign: u32, n: Neighbour) -> Rounded

@@ -12,15 +12,15 @@ use Rattle.kinds.specs.declared.Op.the-variants.{Reciprocal, Root, InverseRoot}
 use Rattle.kinds.specs.Operation.{isReciprocal}
 use Rattle.kinds.specs.Flag.{noFlag, invalid, divisionByZero}
 use Rattle.ieee.specs.Format.{binary32, infinity, quietNaN}
-use Rattle.ieee.specs.Answer.{Answer, answer, signed, toNaN, toZero, toInfinity}
-use Rattle.pattern.specs.Parts.{patternOf, Ranges}
-use Rattle.pattern.specs.Neighbour.{roundedAnswer}
+use Rattle.ieee.specs.Answer.{Answer, answer, withSignBit, toNaN, toZero, toInfinity}
+use Rattle.pattern.specs.Parts.{patternOf, FieldRanges}
+use Rattle.pattern.specs.Answer.{roundedAnswer}
 use Rattle.special.specs.Special.{isSpecial, specialTo}
 use Rattle.pattern.specs.declared.parts.Parts.{Parts}
-use Rattle.pattern.specs.declared.Rounded.{Rounded}
+use Rattle.pattern.specs.declared.answer.Rounded.{Rounded}
 
 -- tests of the fields are tests of the pattern
-module _ (x : Parts) (h : Ranges x) where
+module _ (x : Parts) (h : FieldRanges x) where
   pub nan-is : eqb (x .exponent) 255 && not (eqb (x .fraction) 0) ≡ ltb (infinity binary32) (patternOf (x .exponent) (x .fraction))
   nan-is =
       by-cases (decLt (x .exponent) 255)
@@ -114,18 +114,18 @@ module _ (x : Parts) (h : Ranges x) where
 
 -- the answers of each operation at zero and at infinity
 module _ (op : Op) (s b : ℕ) (r : Rounded) where
-  pub reciprocal-zero : op ≡ Reciprocal → r ≡ roundedAnswer (answer (signed binary32 s (infinity binary32)) divisionByZero)
+  pub reciprocal-zero : op ≡ Reciprocal → r ≡ roundedAnswer (answer (withSignBit binary32 s (infinity binary32)) divisionByZero)
       → r ≡ roundedAnswer (toZero binary32 op s)
   reciprocal-zero o e = rw o e
 
-  pub root-zero : op ≡ Root → b ≡ signed binary32 s 0 → r ≡ roundedAnswer (answer b noFlag) → r ≡ roundedAnswer (toZero binary32 op s)
+  pub root-zero : op ≡ Root → b ≡ withSignBit binary32 s 0 → r ≡ roundedAnswer (answer b noFlag) → r ≡ roundedAnswer (toZero binary32 op s)
   root-zero o p e = rw (o, ← p) e
 
-  pub inverse-root-zero : op ≡ InverseRoot → r ≡ roundedAnswer (answer (signed binary32 s (infinity binary32)) divisionByZero)
+  pub inverse-root-zero : op ≡ InverseRoot → r ≡ roundedAnswer (answer (withSignBit binary32 s (infinity binary32)) divisionByZero)
       → r ≡ roundedAnswer (toZero binary32 op s)
   inverse-root-zero o e = rw o e
 
-  pub reciprocal-infinity : op ≡ Reciprocal → b ≡ signed binary32 s 0 → r ≡ roundedAnswer (answer b noFlag)
+  pub reciprocal-infinity : op ≡ Reciprocal → b ≡ withSignBit binary32 s 0 → r ≡ roundedAnswer (answer b noFlag)
       → r ≡ roundedAnswer (toInfinity binary32 op s)
   reciprocal-infinity o p e = rw (o, ← p) e
 

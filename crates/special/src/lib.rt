@@ -5,20 +5,20 @@ ghost use Prim.Native.Nat.{_<_};
 ghost use lib.Dec.{eqb, ltb};
 ghost use Rattle.kinds.specs.Flag.{noFlag, invalid, divisionByZero};
 ghost use Rattle.ieee.specs.Format.{binary32, infinity, quietNaN};
-ghost use Rattle.ieee.specs.Answer.{answer, signed, toNaN, toZero, toInfinity};
-ghost use Rattle.pattern.specs.Parts.{patternOf, Ranges};
-ghost use Rattle.pattern.specs.Neighbour.{roundedAnswer};
+ghost use Rattle.ieee.specs.Answer.{answer, withSignBit, toNaN, toZero, toInfinity};
+ghost use Rattle.pattern.specs.Parts.{patternOf, FieldRanges};
+ghost use Rattle.pattern.specs.Answer.{roundedAnswer};
 ghost use Rattle.special.specs.Special.{isSpecial, specialTo, edgeOf};
 use kinds::Flags;
 use kinds::Op;
-use pattern::Rounded;
-use pattern::neighbour::flag_if;
-use pattern::neighbour::with_sign;
+use pattern::answer::Rounded;
+use pattern::answer::flag_if;
+use pattern::answer::with_sign;
 use pattern::parts::Parts;
 
 // Whether an operand is a NaN, infinity, zero, or a negative operand of a root.
 pub fn is_special(op: Op, x: Parts) -> bool
-    requires { ⌜ Ranges x ⌝ }
+    requires { ⌜ FieldRanges x ⌝ }
     ensures { λ r. ⌜ r ≡ isSpecial op x ⌝ }
 {
     (x.exponent == 255) | is_zero(x) | ((x.sign == 1) & !op.is_reciprocal())
@@ -26,7 +26,7 @@ pub fn is_special(op: Op, x: Parts) -> bool
 
 // The answer to such an operand.
 pub fn special(op: Op, x: Parts) -> Rounded
-    requires { ⌜ Ranges x ⌝ }
+    requires { ⌜ FieldRanges x ⌝ }
     ensures { λ r. ⌜ r ≡ roundedAnswer (specialTo op x) ⌝ }
 {
     let invalid = (x.sign == 1) & !is_zero(x) & !op.is_reciprocal();
@@ -39,7 +39,7 @@ pub fn special(op: Op, x: Parts) -> Rounded
 
 // Zeros and infinities.
 fn at_edge(op: Op, x: Parts) -> Rounded
-    requires { ⌜ Ranges x ⌝ }
+    requires { ⌜ FieldRanges x ⌝ }
     ensures { λ r. ⌜ r ≡ edgeOf op x ⌝ }
 {
     choose(is_zero(x), at_zero(op, x.sign), at_infinity(op, x.sign))
@@ -52,14 +52,14 @@ fn choose(test: bool, a: Rounded, b: Rounded) -> Rounded
 }
 
 fn is_nan(x: Parts) -> bool
-    requires { ⌜ Ranges x ⌝ }
+    requires { ⌜ FieldRanges x ⌝ }
     ensures { λ r. ⌜ r ≡ ltb (infinity binary32) (patternOf (x .exponent) (x .fraction)) ⌝ }
 {
     (x.exponent == 255) & (x.fraction != 0)
 }
 
 fn is_zero(x: Parts) -> bool
-    requires { ⌜ Ranges x ⌝ }
+    requires { ⌜ FieldRanges x ⌝ }
     ensures { λ r. ⌜ r ≡ eqb (patternOf (x .exponent) (x .fraction)) 0 ⌝ }
 {
     (x.exponent == 0) & (x.fraction == 0)
@@ -77,7 +77,7 @@ fn not_a_number(raises: bool) -> Rounded
 
 // A signalling NaN, whose top fraction bit is 0, raises invalid.
 fn at_nan(x: Parts) -> Rounded
-    requires { ⌜ Ranges x ⌝ }
+    requires { ⌜ FieldRanges x ⌝ }
     ensures { λ r. ⌜ r ≡ roundedAnswer (toNaN binary32 (patternOf (x .exponent) (x .fraction))) ⌝ }
 {
     not_a_number(x.fraction < 0x40_0000)
@@ -109,7 +109,7 @@ fn at_infinity(op: Op, sign: u32) -> Rounded
 
 fn divided_by_zero(sign: u32) -> Rounded
     requires { ⌜ sign < 2 ⌝ }
-    ensures { λ r. ⌜ r ≡ roundedAnswer (answer (signed binary32 sign (infinity binary32)) divisionByZero) ⌝ }
+    ensures { λ r. ⌜ r ≡ roundedAnswer (answer (withSignBit binary32 sign (infinity binary32)) divisionByZero) ⌝ }
 {
     Rounded {
         bits: with_sign(sign, 0x7F80_0000),
