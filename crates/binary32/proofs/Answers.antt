@@ -11,20 +11,20 @@ use Rattle.kinds.specs.declared.Op.{Op}
 use Rattle.kinds.specs.Operation.{isReciprocal}
 use Rattle.kinds.specs.declared.Mode.{Mode}
 use Rattle.ieee.specs.Format.{binary32, infinity, magnitudeOf}
-use Rattle.ieee.specs.Answer.{Answer, signed, toFinite, answerTo, answerOf}
+use Rattle.ieee.specs.Answer.{Answer, withSignBit, toFinite, answerTo, answerOf}
 use Rattle.ieee.proofs.Rounding.{rounded-is, flags-are}
-use Rattle.pattern.specs.Parts.{patternOf, PartsOf, Ranges}
-use Rattle.floors.specs.Operand.{Ordinary}
-use Rattle.pattern.specs.Neighbour.{roundedAnswer}
+use Rattle.pattern.specs.Parts.{patternOf, PartsOf, FieldRanges}
+use Rattle.pattern.specs.Operand.{Ordinary}
+use Rattle.pattern.specs.Answer.{roundedAnswer}
 use Rattle.rounding.specs.Rounded.{takenFrom, roundedFrom}
 use Rattle.binary32.specs.Below.{BelowResult}
 use Rattle.special.specs.Special.{isSpecialAt, isSpecial, specialAt, specialTo}
 use Rattle.pattern.specs.declared.parts.Parts.{Parts}
-use Rattle.pattern.specs.declared.neighbour.Neighbour.{Neighbour}
-use Rattle.pattern.specs.declared.Rounded.{Rounded}
+use Rattle.rounding.specs.declared.neighbour.Neighbour.{Neighbour}
+use Rattle.pattern.specs.declared.answer.Rounded.{Rounded}
 
 -- an operand that is not special is finite and not zero
-pub ordinary-is : (op : Op) (x : Parts) (b : Bool) → b ≡ isSpecial op x → b ≡ false → Ranges x → Ordinary (x .exponent) (x .fraction)
+pub ordinary-is : (op : Op) (x : Parts) (b : Bool) → b ≡ isSpecial op x → b ≡ false → FieldRanges x → Ordinary (x .exponent) (x .fraction)
 unfolding isSpecial
 ordinary-is op x b p e h =
     let t = patternOf (x .exponent) (x .fraction) in
@@ -102,7 +102,7 @@ finite-rounded op mode s e x n below =
     let taken = rounded-is binary32 op m (n .pattern) (n .half) (n .more) (n .beyond) below mode (eqb s 1) in
     let flags =
     flags-are binary32 op m (n .pattern) (n .half) (n .more) (n .beyond) below (omega arith) (omega arith) mode (eqb s 1) (takenFrom mode s n) taken in
-    ap₂ made (ap (signed binary32 s) (sym taken)) (sym flags)
+    ap₂ made (ap (withSignBit binary32 s) (sym taken)) (sym flags)
 
 pub answer-finite : (op : Op) (mode : Mode) (b : ℕ) (x : Parts) (s : Bool) (n : Neighbour) (r : Rounded) → PartsOf b x → s ≡ isSpecial op x → s ≡ false
     → BelowResult op (x .exponent) (x .fraction) n → r ≡ roundedFrom mode (x .sign) n → r ≡ roundedAnswer (answerOf binary32 op mode b)

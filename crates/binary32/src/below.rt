@@ -1,28 +1,33 @@
 // The pattern below the exact result of each operation on a positive finite operand, through the raw unit.
 ghost use Rattle.kinds.specs.declared.Op.the-variants.{Reciprocal, Root, InverseRoot};
-ghost use Rattle.kinds.specs.Operation.{opOf};
-ghost use Rattle.floors.specs.Operand.{Ordinary};
+ghost use Rattle.pattern.specs.Operand.{Ordinary};
 ghost use Rattle.binary32.specs.Below.{BelowResult};
-use floors::floor;
-use floors::operand::scale;
-use kinds::Operation;
-use pattern::neighbour::Neighbour;
-use pattern::neighbour::lower;
+use kinds::Op;
+use pattern::operand::scale;
+use rounding::neighbour::Neighbour;
+use rounding::neighbour::lower;
 
-pub fn below(operation: Operation, exponent: u32, fraction: u32) -> Neighbour
+// A floor q at the scale k stands for q × 2^(k − 3) units of 2^-149. The operand is X = y / 2^23 × 2^(j − 149), j = x.exponent.
+// 1 / X is 2^48 / y × 2^(2·149 − 25 − j) units.
+const RECIPROCAL_SCALE: u64 = 2 * 149 - 25 + 3;
+
+// Twice the scale. √X is √(y × 2^(25 + p)) × 2^(149 − 24 + (j − 149 − p) / 2) units.
+const ROOT_SCALE: u64 = 149 - 2 * 24 + 2 * 3;
+
+// Twice the scale. 1 / √X is √(2^(73 − p) / y) × 2^(149 − 25 + (149 − j + p) / 2) units.
+const INVERSE_ROOT_SCALE: u64 = 3 * 149 - 2 * 25 + 2 * 3;
+
+pub fn below(op: Op, exponent: u32, fraction: u32) -> Neighbour
     requires { ⌜ Ordinary exponent fraction ⌝ }
-    ensures { λ r. ⌜ BelowResult (opOf (operation .0)) exponent fraction r ⌝ }
+    ensures { λ r. ⌜ BelowResult op exponent fraction r ⌝ }
 {
-    if operation.0 == Operation::RECIPROCAL.0 {
-        return reciprocal(exponent, fraction);
+    match op {
+        Op::Reciprocal => reciprocal(exponent, fraction),
+        Op::Root => root(exponent, fraction),
+        Op::InverseRoot => inverse_root(exponent, fraction),
     }
-    if operation.0 == Operation::ROOT.0 {
-        return root(exponent, fraction);
-    }
-    inverse_root(exponent, fraction)
 }
 
-// With X = y / 2^23 × 2^e, e = x.exponent − 149, the reciprocal is 1 / (y / 2^23) × 2^-e.
 fn reciprocal(exponent: u32, fraction: u32) -> Neighbour
     requires { ⌜ Ordinary exponent fraction ⌝ }
     ensures { λ r. ⌜ BelowResult Reciprocal exponent fraction r ⌝ }
@@ -30,32 +35,34 @@ fn reciprocal(exponent: u32, fraction: u32) -> Neighbour
     let x = scale(exponent, fraction);
     let y = x.significand;
     let g = raw::reciprocal(y as u32) as u64;
-    let r = floor::reciprocal(y, g);
-    lower(r.quotient, r.left != 0, 276 - x.exponent)
+    let r = floors::reciprocal(y, g);
+    lower(r.quotient, r.left != 0, RECIPROCAL_SCALE - x.exponent)
 }
 
-// e is 2h + p. Raised by 256 it is not negative, so that the halving floors: −3 is twice −2 with parity 1.
+// The parity is what is over; the halving floors.
 fn root(exponent: u32, fraction: u32) -> Neighbour
     requires { ⌜ Ordinary exponent fraction ⌝ }
     ensures { λ r. ⌜ BelowResult Root exponent fraction r ⌝ }
 {
     let x = scale(exponent, fraction);
     let y = x.significand;
-    let p = (x.exponent + 107) % 2;
+    let twice = x.exponent + ROOT_SCALE;
+    let p = twice % 2;
     let g = raw::root(y as u32, p as u32) as u64;
-    let r = floor::root(y, p, g);
-    lower(r.quotient, r.left != 0, (x.exponent + 107) / 2)
+    let r = floors::root(y, p, g);
+    lower(r.quotient, r.left != 0, twice / 2)
 }
 
-// −e is 2h − p, and 1 / √X is 1 / √(2^p × y / 2^23) × 2^h: the halving rounds up.
+// The parity is what is added; the halving rounds up.
 fn inverse_root(exponent: u32, fraction: u32) -> Neighbour
     requires { ⌜ Ordinary exponent fraction ⌝ }
     ensures { λ r. ⌜ BelowResult InverseRoot exponent fraction r ⌝ }
 {
     let x = scale(exponent, fraction);
     let y = x.significand;
-    let p = (403 - x.exponent) % 2;
+    let twice = INVERSE_ROOT_SCALE - x.exponent;
+    let p = twice % 2;
     let g = raw::inverse_root(y as u32, p as u32) as u64;
-    let r = floor::inverse_root(y, p, g);
-    lower(r.quotient, r.left != 0, (404 - x.exponent) / 2)
+    let r = floors::inverse_root(y, p, g);
+    lower(r.quotient, r.left != 0, (twice + 1) / 2)
 }

@@ -2,12 +2,13 @@
 // all entries by one computed test.
 ghost use mathlib.Core.Path.{_≡_};
 ghost use Prim.Native.Nat.{_≤_};
+ghost use Rattle.significand.specs.Width.{k32};
 ghost use Rattle.significand.specs.Steps.{factorOf};
 
 // R.
 pub fn factor(i: u8) -> u64
     requires { ⌜ 128 ≤ i ⌝ }
-    ensures { λ r. ⌜ r ≡ factorOf 7 i ⌝ }
+    ensures { λ r. ⌜ r ≡ factorOf k32 i ⌝ }
 {
     match i {
         128 => 256,

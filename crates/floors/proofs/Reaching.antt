@@ -15,13 +15,14 @@ use Rattle.kinds.specs.declared.Op.{Op}
 use Rattle.kinds.specs.declared.Op.the-variants.{Reciprocal, Root, InverseRoot}
 use Rattle.ieee.specs.Rounded.{side}
 use Rattle.ieee.proofs.Neighbours.{side-rising}
-use Rattle.significand.specs.Distance.{Near, Under, Over, distanceOf}
+use Rattle.significand.specs.Width.{k32, t32, Significand}
+use Rattle.significand.specs.Distance.{Near, Under, Over, boundOf}
 use Rattle.floors.specs.Floor.{targetOf, strideOf, spreadOf, stepsOf, Reached, Stepped, remainderOf}
-use Rattle.floors.specs.declared.floor.Partial.{Partial}
+use Rattle.floors.specs.declared.Partial.{Partial}
 
 -- the start: the raw answer less its distance, in the floor's steps
 abbrev pub startOf : Op → ℕ → ℕ
-startOf op g = (g - distanceOf op) / strideOf op
+startOf op g = (g - boundOf op) / strideOf op
 
 -- in finer steps the side is spread
 spread : (op : Op) (y q : ℕ) → side op y (strideOf op * q) ≡ spreadOf op * side op y q
@@ -30,16 +31,16 @@ spread Root y q = omega arith
 spread InverseRoot y q = omega arith
 
 -- the start is not above the raw answer less its distance, and with all the steps not below it and its distance
-start-low : (op : Op) (g : ℕ) → strideOf op * startOf op g ≤ g - distanceOf op
-start-low op g = mul-div-le (g - distanceOf op) (strideOf op)
+start-low : (op : Op) (g : ℕ) → strideOf op * startOf op g ≤ g - boundOf op
+start-low op g = mul-div-le (g - boundOf op) (strideOf op)
 
-start-high : (op : Op) (g : ℕ) → g + distanceOf op ≤ strideOf op * (startOf op g + suc (stepsOf op))
+start-high : (op : Op) (g : ℕ) → g + boundOf op ≤ strideOf op * (startOf op g + suc (stepsOf op))
 start-high Reciprocal g = omega arith
 start-high Root g = omega arith
 start-high InverseRoot g = omega arith
 
 -- a number below or above the exact result, in the raw unit's steps, is so by its side
-under-side : (op : Op) (y p v : ℕ) → p ≤ 1 → Under op 7 23 y p v → side op y v < spreadOf op * targetOf op y p
+under-side : (op : Op) (y p v : ℕ) → p ≤ 1 → Under op k32 (3 * k32 + t32 - 1) y p v → side op y v < spreadOf op * targetOf op y p
 under-side Reciprocal y p v h u = omega arith
 under-side Root y zero v h u = omega arith
 under-side Root y (suc zero) v h u = omega arith
@@ -48,7 +49,7 @@ under-side InverseRoot y zero v h u = omega arith
 under-side InverseRoot y (suc zero) v h u = omega arith
 under-side InverseRoot y (suc (suc p)) v h u = absurd (omega arith)
 
-over-side : (op : Op) (y p v : ℕ) → p ≤ 1 → Over op 7 23 y p v → spreadOf op * targetOf op y p < side op y v
+over-side : (op : Op) (y p v : ℕ) → p ≤ 1 → Over op k32 (3 * k32 + t32 - 1) y p v → spreadOf op * targetOf op y p < side op y v
 over-side Reciprocal y p v h u = omega arith
 over-side Root y zero v h u = omega arith
 over-side Root y (suc zero) v h u = omega arith
@@ -57,20 +58,20 @@ over-side InverseRoot y zero v h u = omega arith
 over-side InverseRoot y (suc zero) v h u = omega arith
 over-side InverseRoot y (suc (suc p)) v h u = absurd (omega arith)
 
-module _ (op : Op) (y p g : ℕ) (parity : p ≤ 1) (near : Near op 7 3 y p (distanceOf op) g) where
+module _ (op : Op) (y p g : ℕ) (parity : p ≤ 1) (near : Near op k32 t32 y p (boundOf op) g) where
   -- the start is at or below the floor,
   pub started-low : side op y (startOf op g) < targetOf op y p
   started-low =
       lt-of-mul-lt-mul-left (spreadOf op)
       (subst (λ (n : ℕ). n < spreadOf op * targetOf op y p) (spread op y (startOf op g))
-      (lt-of-le-of-lt (side-rising op y (start-low op g)) (under-side op y p (g - distanceOf op) parity (near .under))))
+      (lt-of-le-of-lt (side-rising op y (start-low op g)) (under-side op y p (g - boundOf op) parity (near .under))))
 
   -- and the steps lead past it
   pub started-high : targetOf op y p < side op y (startOf op g + suc (stepsOf op))
   started-high =
       lt-of-mul-lt-mul-left (spreadOf op)
       (subst (λ (n : ℕ). spreadOf op * targetOf op y p < n) (spread op y (startOf op g + suc (stepsOf op)))
-      (lt-of-lt-of-le (over-side op y p (g + distanceOf op) parity (near .over)) (side-rising op y (start-high op g))))
+      (lt-of-lt-of-le (over-side op y p (g + boundOf op) parity (near .over)) (side-rising op y (start-high op g))))
 
   pub started : Reached op y (targetOf op y p) (record { quotient = startOf op g; left = targetOf op y p - side op y (startOf op g) }) (stepsOf op)
   started = record { is = omega (arith, started-low); above = started-high }
@@ -122,8 +123,8 @@ pub stepped-none : (x : Partial) (amount : ℕ) → x .left < amount → Stepped
 stepped-none x amount h = record { is = simp (lt-leb amount (x .left) h); most = omega arith }
 
 -- a number whose side is at most the target has 25 bits, or is 2^25
-pub quotient-small : (op : Op) (y p q : ℕ) → 8388608 ≤ y → y < 16777216 → p ≤ 1 → side op y q ≤ targetOf op y p → q ≤ 2 ^ 25
-quotient-small op y p q low high parity h =
+pub quotient-small : (op : Op) (y p q : ℕ) → Significand k32 t32 y → p ≤ 1 → side op y q ≤ targetOf op y p → q ≤ 2 ^ 25
+quotient-small op y p q Y parity h =
     by-cases (decLt (2 ^ 25) q) (λ l. absurd (go op p parity (le-trans (side-rising op y l) h))) (λ l. omega arith)
   where
     go : (o : Op) (n : ℕ) → n ≤ 1 → side o y (suc (2 ^ 25)) ≤ targetOf o y n → ⊥
@@ -135,12 +136,12 @@ quotient-small op y p q low high parity h =
     go InverseRoot (suc zero) b k = omega arith
     go InverseRoot (suc (suc n)) b k = omega arith
 
-pub start-small : (op : Op) (y p g : ℕ) → 8388608 ≤ y → y < 16777216 → p ≤ 1 → Near op 7 3 y p (distanceOf op) g → startOf op g ≤ 2 ^ 25
-start-small op y p g low high parity near =
-    quotient-small op y p (startOf op g) low high parity (le-of-lt (started-low op y p g parity near))
+pub start-small : (op : Op) (y p g : ℕ) → Significand k32 t32 y → p ≤ 1 → Near op k32 t32 y p (boundOf op) g → startOf op g ≤ 2 ^ 25
+start-small op y p g Y parity near =
+    quotient-small op y p (startOf op g) Y parity (le-of-lt (started-low op y p g parity near))
 
 -- the reciprocal's three steps
-pub reciprocal-reached : (y g : ℕ) (a b r : Partial) → Near Reciprocal 7 3 y 0 12 g
+pub reciprocal-reached : (y g : ℕ) (a b r : Partial) → Near Reciprocal k32 t32 y 0 12 g
     → Stepped (record { quotient = (g - 12) / 8; left = 2 ^ 48 - y * ((g - 12) / 8) }) y a → Stepped a y b → Stepped b y r
     → Reached Reciprocal y (targetOf Reciprocal y 0) r 0
 reciprocal-reached y g a b r near sa sb sr =
@@ -157,7 +158,7 @@ pub root-shifted : (y p : ℕ) → y < 16777216 → p ≤ 1 → y * 2 ^ (25 + p)
 root-shifted y p h k = mod-eq-of-lt (omega (arith, root-target y p h k))
 
 -- the root's one step
-pub root-reached : (y p g : ℕ) (r : Partial) → y < 16777216 → p ≤ 1 → Near Root 7 3 y p 8 g
+pub root-reached : (y p g : ℕ) (r : Partial) → y < 16777216 → p ≤ 1 → Near Root k32 t32 y p 8 g
     → Stepped (record { quotient = (g - 8) / 16; left = y * 2 ^ (25 + p) % 2 ^ 64 - (g - 8) / 16 * ((g - 8) / 16) }) (2 * ((g - 8) / 16) + 1) r
     → Reached Root y (targetOf Root y p) r 0
 root-reached y p g r h k near s =
@@ -189,23 +190,23 @@ inverse-target y (suc zero) h = (2 ^ 16, refl)
 inverse-target y (suc (suc p)) h = absurd (omega arith)
 
 -- the remainder at the start
-pub inverse-left : (y p g : ℕ) → 8388608 ≤ y → y < 16777216 → p ≤ 1 → Near InverseRoot 7 3 y p 8 g
+pub inverse-left : (y p g : ℕ) → Significand k32 t32 y → p ≤ 1 → Near InverseRoot k32 t32 y p 8 g
     → remainderOf (startOf InverseRoot g) y ≡ targetOf InverseRoot y p - side InverseRoot y (startOf InverseRoot g)
 unfolding remainderOf
-inverse-left y p g low high parity near =
+inverse-left y p g Y parity near =
     let q = startOf InverseRoot g in
     let m = inverse-target y p parity in
-    let small = start-small InverseRoot y p g low high parity near in
+    let small = start-small InverseRoot y p g Y parity near in
     let l = started-low InverseRoot y p g parity near in
     let u = started-high InverseRoot y p g parity near in
-    remainder-tells (q * q * y) (m .0) (targetOf InverseRoot y p - q * q * y) (omega (arith, l, m .1)) (omega (arith, u, inverse-room q y small high))
+    remainder-tells (q * q * y) (m .0) (targetOf InverseRoot y p - q * q * y) (omega (arith, l, m .1)) (omega (arith, u, inverse-room q y small (Y .below)))
 
 -- the inverse root's two steps
-pub inverse-root-reached : (y p g l : ℕ) (a r : Partial) → 8388608 ≤ y → y < 16777216 → p ≤ 1 → Near InverseRoot 7 3 y p 8 g
+pub inverse-root-reached : (y p g l : ℕ) (a r : Partial) → Significand k32 t32 y → p ≤ 1 → Near InverseRoot k32 t32 y p 8 g
     → l ≡ remainderOf ((g - 8) / 8) y
     → Stepped (record { quotient = (g - 8) / 8; left = l }) ((2 * ((g - 8) / 8) + 1) * y) a → Stepped a ((2 * a .quotient + 1) * y) r
     → Reached InverseRoot y (targetOf InverseRoot y p) r 0
-inverse-root-reached y p g l a r low high parity near e sa sr =
+inverse-root-reached y p g l a r Y parity near e sa sr =
     let x = targetOf InverseRoot y p in
-    let first = nearer InverseRoot y x 1 _ a (started InverseRoot y p g parity near) (rw (e ∙ inverse-left y p g low high parity near) at sa) in
+    let first = nearer InverseRoot y x 1 _ a (started InverseRoot y p g parity near) (rw (e ∙ inverse-left y p g Y parity near) at sa) in
     nearer InverseRoot y x 0 a r first sr

@@ -6,7 +6,7 @@ use lib.Dec.{leb}
 use Rattle.kinds.specs.declared.Op.{Op}
 use Rattle.kinds.specs.declared.Op.the-variants.{Reciprocal, Root, InverseRoot}
 use Rattle.ieee.specs.Rounded.{side}
-use Rattle.floors.specs.declared.floor.Partial.{Partial}
+use Rattle.floors.specs.declared.Partial.{Partial}
 
 -- The floor is the greatest q with y·q ≤ 2^48, q² ≤ y·2^(25 + p), or q²·y ≤ 2^(73 − p): `side` at most the target
 abbrev pub targetOf : Op → ℕ → ℕ → ℕ

@@ -1,2 +1,1 @@
-pub mod Operand
 pub mod Floor

@@ -1,3 +1,79 @@
-// A finite operand as a significand and a power of two, and the floor of its exact result with one guard bit, from a raw answer.
-pub mod floor;
-pub mod operand;
+// The floor of an exact result with one guard bit: from a raw answer, which starts at or below the floor, step by step up to it. A remainder decides each step.
+ghost use mathlib.Core.Path.{_≡_};
+ghost use Prim.Native.Nat.{_^_, _≤_, _<_};
+ghost use Rattle.kinds.specs.declared.Op.the-variants.{Reciprocal, Root, InverseRoot};
+ghost use Rattle.significand.specs.Width.{k32, t32, Significand};
+ghost use Rattle.significand.specs.Distance.{Near, boundOf};
+ghost use Rattle.floors.specs.Floor.{Reached, Stepped, targetOf, remainderOf};
+
+// A number at or below the floor, and what its product leaves of the target.
+pub struct Partial {
+    pub quotient: u64,
+    pub left: u64,
+}
+
+// One step up where the remainder has room for it.
+fn step(x: Partial, amount: u64) -> Partial
+    requires { ⌜ x .quotient < 2 ^ 32 ⌝ }
+    ensures { λ r. ⌜ Stepped x amount r ⌝ }
+{
+    if amount <= x.left {
+        return Partial {
+            quotient: x.quotient + 1,
+            left: x.left - amount,
+        };
+    }
+    x
+}
+
+// 2^48 / y: three steps are enough.
+pub fn reciprocal(y: u64, g: u64) -> Partial
+    requires { ⌜ Significand k32 t32 y × (g < 2 ^ 32) × Near Reciprocal k32 t32 y 0 (boundOf Reciprocal) g ⌝ }
+    ensures { λ r. ⌜ Reached Reciprocal y (targetOf Reciprocal y 0) r 0 ⌝ }
+{
+    let q = (g - 12) / 8;
+    let first = Partial {
+        quotient: q,
+        left: 0x1_0000_0000_0000 - y * q,
+    };
+    step(step(step(first, y), y), y)
+}
+
+// The root of y × 2^(25 + p): one step is enough.
+pub fn root(y: u64, p: u64, g: u64) -> Partial
+    requires { ⌜ Significand k32 t32 y × (p ≤ 1) × (g < 2 ^ 32) × Near Root k32 t32 y p (boundOf Root) g ⌝ }
+    ensures { λ r. ⌜ Reached Root y (targetOf Root y p) r 0 ⌝ }
+{
+    let q = (g - 8) / 16;
+    let first = Partial {
+        quotient: q,
+        left: (y << (25 + p)) - q * q,
+    };
+    step(first, 2 * q + 1)
+}
+
+// The root of 2^(73 - p) / y: two steps are enough.
+pub fn inverse_root(y: u64, p: u64, g: u64) -> Partial
+    requires { ⌜ Significand k32 t32 y × (p ≤ 1) × (g < 2 ^ 32) × Near InverseRoot k32 t32 y p (boundOf InverseRoot) g ⌝ }
+    ensures { λ r. ⌜ Reached InverseRoot y (targetOf InverseRoot y p) r 0 ⌝ }
+{
+    let q = (g - 8) / 8;
+    let first = Partial {
+        quotient: q,
+        left: remainder(q, y),
+    };
+    let second = step(first, (2 * q + 1) * y);
+    let next = second.quotient;
+    step(second, (2 * next + 1) * y)
+}
+
+// What q² × y leaves of 2^(73 - p). It has 73 bits, and the remainder fewer than 56, so the lower 56 bits tell it.
+fn remainder(q: u64, y: u64) -> u64
+    requires { ⌜ (q < 2 ^ 26) × (y < 2 ^ 24) ⌝ }
+    ensures { λ r. ⌜ r ≡ remainderOf q y ⌝ }
+{
+    let square = q * q;
+    let high = (square >> 26) * y % 0x4000_0000;
+    let low = square % 0x400_0000 * y;
+    (0x200_0000_0000_0000 - (high * 0x400_0000 + low) % 0x100_0000_0000_0000) % 0x100_0000_0000_0000
+}

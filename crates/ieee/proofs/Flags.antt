@@ -15,7 +15,7 @@ use Rattle.kinds.specs.Flag.{invalid, overflow, underflow, inexact}
 use Rattle.numbers.proofs.Bits.{bit, bit-or, or-keeps}
 use Rattle.ieee.specs.Format.{Format, binary32, infinity, quietNaN, magnitudeOf}
 use Rattle.ieee.specs.Rounded.{flagsOf, isOverflow, isUnderflow, isInexact}
-use Rattle.ieee.specs.Answer.{Answer, answer, toNaN, toZero, toInfinity, toFinite, answerOf, signOf, unsigned}
+use Rattle.ieee.specs.Answer.{Answer, answer, toNaN, toZero, toInfinity, toFinite, answerOf, signBitOf, unsigned}
 use Rattle.ieee.specs.Call.{binary32Refusal, binary32Status}
 use Rattle.ieee.proofs.Accepted.{accepted-status}
 
@@ -58,7 +58,7 @@ few-finite f op mode s t =
 few : (f : Format) (op : Op) (mode : Mode) (b : ℕ) → Few (answerOf f op mode b)
 unfolding answerOf
 few f op mode b =
-    let s = signOf f b in
+    let s = signBitOf f b in
     let t = unsigned f b in
     either-few (ltb (infinity f) t) _ _ (few-nan f t)
     (either-few (eqb s 1 && not (eqb t 0) && not (isReciprocal op)) (answer (quietNaN f) invalid) _ (record { small = lit< tt })

@@ -19,15 +19,15 @@ abbrev pub answer : ℕ → ℕ → Answer
 answer b f = record { bits = b; flags = f }
 
 -- the sign of a pattern, 0 or 1, and the pattern without it
-abbrev pub signOf : Format → ℕ → ℕ
-signOf f b = b / signBit f
+abbrev pub signBitOf : Format → ℕ → ℕ
+signBitOf f b = b / signBit f
 
 abbrev pub unsigned : Format → ℕ → ℕ
 unsigned f b = b % signBit f
 
 -- a pattern without sign, given the sign s
-abbrev pub signed : Format → ℕ → ℕ → ℕ
-signed f s t = s * signBit f + t
+abbrev pub withSignBit : Format → ℕ → ℕ → ℕ
+withSignBit f s t = s * signBit f + t
 
 -- NaN: a quiet NaN; a signalling one, whose top fraction bit is 0, also raises invalid
 abbrev pub toNaN : Format → ℕ → Answer
@@ -35,20 +35,20 @@ toNaN f t = answer (quietNaN f) (cond (ltb (t % 2 ^ f .fractionBits) (2 ^ (f .fr
 
 -- zero: root gives the same zero, the others infinity of the same sign and division by zero
 abbrev pub toZero : Format → Op → ℕ → Answer
-toZero f Reciprocal s = answer (signed f s (infinity f)) divisionByZero
-toZero f Root s = answer (signed f s 0) noFlag
-toZero f InverseRoot s = answer (signed f s (infinity f)) divisionByZero
+toZero f Reciprocal s = answer (withSignBit f s (infinity f)) divisionByZero
+toZero f Root s = answer (withSignBit f s 0) noFlag
+toZero f InverseRoot s = answer (withSignBit f s (infinity f)) divisionByZero
 
 -- infinity: reciprocal gives a zero of the same sign; plus infinity gives plus infinity (root) or plus zero (inverse root)
 abbrev pub toInfinity : Format → Op → ℕ → Answer
-toInfinity f Reciprocal s = answer (signed f s 0) noFlag
+toInfinity f Reciprocal s = answer (withSignBit f s 0) noFlag
 toInfinity f Root s = answer (infinity f) noFlag
 toInfinity f InverseRoot s = answer 0 noFlag
 
 -- a finite operand that is not zero: the rounded result of its magnitude, with its sign
 abbrev pub toFinite : Format → Op → Mode → ℕ → ℕ → Answer
 toFinite f op mode s t =
-    answer (signed f s (roundedOf f op mode (eqb s 1) (magnitudeOf f t))) (flagsOf f op mode (eqb s 1) (magnitudeOf f t))
+    answer (withSignBit f s (roundedOf f op mode (eqb s 1) (magnitudeOf f t))) (flagsOf f op mode (eqb s 1) (magnitudeOf f t))
 
 -- the operand without its sign t, its sign s
 abbrev pub answerTo : Format → Op → Mode → ℕ → ℕ → Answer
@@ -61,4 +61,4 @@ answerTo f op mode s t =
 
 -- what the operation answers to the pattern b
 unfoldable pub answerOf : Format → Op → Mode → ℕ → Answer
-answerOf f op mode b = answerTo f op mode (signOf f b) (unsigned f b)
+answerOf f op mode b = answerTo f op mode (signBitOf f b) (unsigned f b)

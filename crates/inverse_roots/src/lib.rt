@@ -3,24 +3,25 @@
 ghost use mathlib.Core.Path.{_≡_};
 ghost use Prim.Native.Nat.{_≤_};
 ghost use Rattle.kinds.specs.declared.Op.the-variants.{InverseRoot};
+ghost use Rattle.significand.specs.Width.{k32};
 ghost use Rattle.significand.specs.Steps.{factorOf, multiplierOf};
 
 // M of the inverse root.
-pub fn inverse_root(i: u8, p: u8) -> u64
+pub fn multiplier(i: u8, p: u8) -> u64
     requires { ⌜ (128 ≤ i) × (p ≤ 1) ⌝ }
-    ensures { λ r. ⌜ r ≡ multiplierOf 7 InverseRoot (factorOf 7 i) p ⌝ }
+    ensures { λ r. ⌜ r ≡ multiplierOf k32 InverseRoot (factorOf k32 i) p ⌝ }
 {
     if p == 0 {
-        inverse_root_even(i)
+        multiplier_even(i)
     } else {
-        inverse_root_odd(i)
+        multiplier_odd(i)
     }
 }
 
 // M of the inverse root, parity 0.
-fn inverse_root_even(i: u8) -> u64
+fn multiplier_even(i: u8) -> u64
     requires { ⌜ 128 ≤ i ⌝ }
-    ensures { λ r. ⌜ r ≡ multiplierOf 7 InverseRoot (factorOf 7 i) 0 ⌝ }
+    ensures { λ r. ⌜ r ≡ multiplierOf k32 InverseRoot (factorOf k32 i) 0 ⌝ }
 {
     match i {
         128 => 268435456,
@@ -155,9 +156,9 @@ fn inverse_root_even(i: u8) -> u64
 }
 
 // M of the inverse root, parity 1.
-fn inverse_root_odd(i: u8) -> u64
+fn multiplier_odd(i: u8) -> u64
     requires { ⌜ 128 ≤ i ⌝ }
-    ensures { λ r. ⌜ r ≡ multiplierOf 7 InverseRoot (factorOf 7 i) 1 ⌝ }
+    ensures { λ r. ⌜ r ≡ multiplierOf k32 InverseRoot (factorOf k32 i) 1 ⌝ }
 {
     match i {
         128 => 189812531,

@@ -1,2 +1,3 @@
 pub mod Parts
-pub mod Neighbour
+pub mod Operand
+pub mod Answer

@@ -12,12 +12,12 @@ abbrev pub patternOf : ℕ → ℕ → ℕ
 patternOf e x = e * 2 ^ 23 + x
 
 -- the fields are within their bits
-pub record Ranges (x : Parts) : Type 0 where
+pub record FieldRanges (x : Parts) : Type 0 where
   pub sign : x .sign < 2
-  pub exponent : x .exponent < 256
-  pub fraction : x .fraction < 8388608
+  pub exponent : x .exponent < 2 ^ 8
+  pub fraction : x .fraction < 2 ^ 23
 
 -- the parts of a pattern
 pub record PartsOf (b : ℕ) (x : Parts) : Type 0 where
   pub is : x ≡ fieldsOf b
-  pub ranges : Ranges x
+  pub ranges : FieldRanges x

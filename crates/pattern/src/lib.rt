@@ -1,9 +1,4 @@
-// Binary32 patterns: their fields, and how a rounded answer is put together.
-pub mod neighbour;
+// Binary32 patterns: their fields, an operand's significand and scale, and how an answer is put together.
+pub mod answer;
+pub mod operand;
 pub mod parts;
-
-// A pattern and the flags that its operation raises.
-pub struct Rounded {
-    pub bits: u32,
-    pub flags: u8,
-}

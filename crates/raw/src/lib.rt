@@ -3,51 +3,85 @@
 ghost use mathlib.Core.Path.{_≡_};
 ghost use Prim.Native.Nat.{_*_, _/_, _≤_, _<_, _^_};
 ghost use Rattle.kinds.specs.declared.Op.the-variants.{Reciprocal, Root, InverseRoot};
+ghost use Rattle.significand.specs.Width.{k32, t32, Significand, Operand};
 ghost use Rattle.significand.specs.Steps.{rawOf};
+ghost use Rattle.significand.specs.Call.{rawRefusal};
+use kinds::Op;
+use kinds::ask;
 use series::inverse_root_series;
 use series::reciprocal_series;
 use series::reduce;
 use series::root_series;
 
-// Step 5: M × b over 2^28, floored.
-fn scaled(m: u64, b: u64) -> u32
-    requires { ⌜ (m < 2 ^ 30) × (b < 2 ^ 29) ⌝ }
-    ensures { λ r. ⌜ r ≡ m * b / 2 ^ 28 ⌝ }
+// The least number of 24 bits, and the least that has more.
+const LEAST_SIGNIFICAND: u32 = 8388608;
+
+const SIGNIFICAND_LIMIT: u32 = 16777216;
+
+// The first of questions 1, 3 and 4 that is answered "no", or 0. Each is worked out whether or not an earlier one is answered "no".
+pub fn refusal(operation: u8, significand: u32, parity: u8) -> u8
+    ensures { λ r. ⌜ r ≡ rawRefusal operation significand parity ⌝ }
 {
-    (m * b / 268435456) as u32
+    let known = Op::is_number(operation);
+    let sized = (LEAST_SIGNIFICAND <= significand) & (significand < SIGNIFICAND_LIMIT);
+    let even = parity == 0;
+    let odd = (parity == 1) & !Op::of(operation).is_reciprocal();
+    let fourth = ask(even | odd, 4, 0);
+    let third = ask(sized, 3, fourth);
+    ask(known, 1, third)
+}
+
+// The answer of an operation.
+pub fn answer(op: Op, significand: u32, parity: u8) -> u32
+    requires { ⌜ Operand op significand parity ⌝ }
+    ensures { λ r. ⌜ r ≡ rawOf k32 t32 op significand parity ⌝ }
+{
+    match op {
+        Op::Reciprocal => reciprocal(significand),
+        Op::Root => root(significand, parity as u32),
+        Op::InverseRoot => inverse_root(significand, parity as u32),
+    }
 }
 
 pub fn reciprocal(y: u32) -> u32
-    requires { ⌜ (8388608 ≤ y) × (y < 16777216) ⌝ }
-    ensures { λ r. ⌜ r ≡ rawOf 7 3 Reciprocal y 0 ⌝ }
+    requires { ⌜ Significand k32 t32 y ⌝ }
+    ensures { λ r. ⌜ r ≡ rawOf k32 t32 Reciprocal y 0 ⌝ }
 {
     let i = (y >> 16) as u8;
     let r = factors::factor(i);
     let d = reduce(y, r);
     let b = reciprocal_series(d.positive, d.magnitude);
-    scaled(r * 1048576, b)
+    shifted_product(r * 1048576, b)
 }
 
 // The root of Y, or of 2Y where p is 1.
 pub fn root(y: u32, p: u32) -> u32
-    requires { ⌜ (8388608 ≤ y) × (y < 16777216) × (p ≤ 1) ⌝ }
-    ensures { λ r. ⌜ r ≡ rawOf 7 3 Root y p ⌝ }
+    requires { ⌜ Significand k32 t32 y × (p ≤ 1) ⌝ }
+    ensures { λ r. ⌜ r ≡ rawOf k32 t32 Root y p ⌝ }
 {
     let i = (y >> 16) as u8;
     let r = factors::factor(i);
     let d = reduce(y, r);
     let b = root_series(d.positive, d.magnitude);
-    scaled(roots::root(i, p as u8), b)
+    shifted_product(roots::multiplier(i, p as u8), b)
 }
 
 // The inverse root of Y, or of 2Y where p is 1.
 pub fn inverse_root(y: u32, p: u32) -> u32
-    requires { ⌜ (8388608 ≤ y) × (y < 16777216) × (p ≤ 1) ⌝ }
-    ensures { λ r. ⌜ r ≡ rawOf 7 3 InverseRoot y p ⌝ }
+    requires { ⌜ Significand k32 t32 y × (p ≤ 1) ⌝ }
+    ensures { λ r. ⌜ r ≡ rawOf k32 t32 InverseRoot y p ⌝ }
 {
     let i = (y >> 16) as u8;
     let r = factors::factor(i);
     let d = reduce(y, r);
     let b = inverse_root_series(d.positive, d.magnitude);
-    scaled(inverse_roots::inverse_root(i, p as u8), b)
+    shifted_product(inverse_roots::multiplier(i, p as u8), b)
+}
+
+// Step 5: M × b over 2^28, floored.
+fn shifted_product(m: u64, b: u64) -> u32
+    requires { ⌜ (m < 2 ^ 30) × (b < 2 ^ 29) ⌝ }
+    ensures { λ r. ⌜ r ≡ m * b / 2 ^ 28 ⌝ }
+{
+    (m * b / 268435456) as u32
 }

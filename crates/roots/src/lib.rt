@@ -3,20 +3,25 @@
 ghost use mathlib.Core.Path.{_≡_};
 ghost use Prim.Native.Nat.{_≤_};
 ghost use Rattle.kinds.specs.declared.Op.the-variants.{Root};
+ghost use Rattle.significand.specs.Width.{k32};
 ghost use Rattle.significand.specs.Steps.{factorOf, multiplierOf};
 
 // M of the root.
-pub fn root(i: u8, p: u8) -> u64
+pub fn multiplier(i: u8, p: u8) -> u64
     requires { ⌜ (128 ≤ i) × (p ≤ 1) ⌝ }
-    ensures { λ r. ⌜ r ≡ multiplierOf 7 Root (factorOf 7 i) p ⌝ }
+    ensures { λ r. ⌜ r ≡ multiplierOf k32 Root (factorOf k32 i) p ⌝ }
 {
-    if p == 0 { root_even(i) } else { root_odd(i) }
+    if p == 0 {
+        multiplier_even(i)
+    } else {
+        multiplier_odd(i)
+    }
 }
 
 // M of the root, parity 0.
-fn root_even(i: u8) -> u64
+fn multiplier_even(i: u8) -> u64
     requires { ⌜ 128 ≤ i ⌝ }
-    ensures { λ r. ⌜ r ≡ multiplierOf 7 Root (factorOf 7 i) 0 ⌝ }
+    ensures { λ r. ⌜ r ≡ multiplierOf k32 Root (factorOf k32 i) 0 ⌝ }
 {
     match i {
         128 => 268435456,
@@ -151,9 +156,9 @@ fn root_even(i: u8) -> u64
 }
 
 // M of the root, parity 1.
-fn root_odd(i: u8) -> u64
+fn multiplier_odd(i: u8) -> u64
     requires { ⌜ 128 ≤ i ⌝ }
-    ensures { λ r. ⌜ r ≡ multiplierOf 7 Root (factorOf 7 i) 1 ⌝ }
+    ensures { λ r. ⌜ r ≡ multiplierOf k32 Root (factorOf k32 i) 1 ⌝ }
 {
     match i {
         128 => 379625062,

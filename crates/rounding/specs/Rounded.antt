@@ -7,9 +7,9 @@ use Rattle.kinds.specs.Rounding.{away}
 use Rattle.kinds.specs.Guard.{placeOf}
 use Rattle.kinds.specs.Flag.{overflow, underflow, inexact}
 use Rattle.ieee.specs.Format.{binary32, infinity, leastNormal}
-use Rattle.ieee.specs.Answer.{signed}
-use Rattle.pattern.specs.declared.neighbour.Neighbour.{Neighbour}
-use Rattle.pattern.specs.declared.Rounded.{Rounded}
+use Rattle.ieee.specs.Answer.{withSignBit}
+use Rattle.rounding.specs.declared.neighbour.Neighbour.{Neighbour}
+use Rattle.pattern.specs.declared.answer.Rounded.{Rounded}
 
 -- the pattern that the rounding takes
 abbrev pub takenFrom : Mode → ℕ → Neighbour → ℕ
@@ -20,7 +20,7 @@ takenFrom mode s n =
 unfoldable pub roundedFrom : Mode → ℕ → Neighbour → Rounded
 roundedFrom mode s n =
     record {
-      bits = signed binary32 s (takenFrom mode s n);
+      bits = withSignBit binary32 s (takenFrom mode s n);
       flags =
           cond (n .beyond || eqb (takenFrom mode s n) (infinity binary32)) overflow 0
           + cond (ltb (n .pattern) (leastNormal binary32) && (n .half || n .more)) underflow 0

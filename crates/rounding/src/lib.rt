@@ -1,34 +1,32 @@
-// From the pattern below the exact result to the rounded pattern and its flags.
+// From a floor with a guard bit to the pattern below the exact result, and on to the rounded pattern and its flags.
+pub mod neighbour;
+
 ghost use mathlib.Core.Path.{_≡_};
 ghost use mathlib.Core.Bool.{cond};
 ghost use Prim.Native.Nat.{suc, _≤_, _<_};
-ghost use Rattle.kinds.specs.Rounding.{modeOf};
 ghost use Rattle.ieee.specs.Format.{binary32, infinity};
 ghost use Rattle.rounding.specs.Rounded.{roundedFrom};
-use kinds::Flag;
-use kinds::Rounding;
+use kinds::Flags;
+use kinds::Mode;
 use kinds::goes_away;
-use pattern::Rounded;
-use pattern::neighbour::Neighbour;
-use pattern::neighbour::flag_if;
-use pattern::neighbour::with_sign;
+use neighbour::Neighbour;
+use pattern::answer::Rounded;
+use pattern::answer::flag_if;
+use pattern::answer::with_sign;
 
 // The neighbour that the rounding takes, with its sign, and the flags.
-pub fn round(rounding: Rounding, sign: u32, n: Neighbour) -> Rounded
+pub fn round(mode: Mode, sign: u32, n: Neighbour) -> Rounded
     requires { ⌜ (sign < 2) × (n .pattern < infinity binary32) ⌝ }
-    ensures { λ r. ⌜ r ≡ roundedFrom (modeOf (rounding .0)) sign n ⌝ }
+    ensures { λ r. ⌜ r ≡ roundedFrom mode sign n ⌝ }
 {
     let odd = n.pattern % 2 == 1;
-    let t = next_if(
-        goes_away(rounding, sign == 1, odd, n.half, n.more),
-        n.pattern,
-    );
+    let t = next_if(goes_away(mode, sign == 1, odd, n.half, n.more), n.pattern);
     let inexact = n.half | n.more;
     let overflow = n.beyond | (t == 0x7F80_0000);
     let underflow = (n.pattern < 0x80_0000) & inexact;
-    let flags = flag_if(overflow, Flag::OVERFLOW)
-        + flag_if(underflow, Flag::UNDERFLOW)
-        + flag_if(inexact, Flag::INEXACT);
+    let flags = flag_if(overflow, Flags::OVERFLOW)
+        + flag_if(underflow, Flags::UNDERFLOW)
+        + flag_if(inexact, Flags::INEXACT);
     Rounded {
         bits: with_sign(sign, t),
         flags,

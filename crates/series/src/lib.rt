@@ -2,6 +2,7 @@
 ghost use mathlib.Core.Path.{_≡_};
 ghost use Prim.Native.Nat.{_+_, _*_, _/_, _≤_, _<_, _^_};
 ghost use Rattle.kinds.specs.declared.Op.the-variants.{Reciprocal, Root, InverseRoot};
+ghost use Rattle.significand.specs.Width.{k32, t32, Significand};
 ghost use Rattle.significand.specs.Steps.{plus as Steps·plus, less as Steps·less, factorOf, reducedOf, seriesOf};
 ghost use Rattle.series.specs.Parts.{Reduced, Products};
 
@@ -13,7 +14,7 @@ pub struct Reduction {
 
 // Step 2, for a significand y and its R.
 pub fn reduce(y: u32, r: u64) -> Reduction
-    requires { ⌜ (8388608 ≤ y) × (y < 16777216) × (r ≡ factorOf 7 (y / 2 ^ 16)) ⌝ }
+    requires { ⌜ Significand k32 t32 y × (r ≡ factorOf k32 (y / 2 ^ 16)) ⌝ }
     ensures { λ d. ⌜ Reduced (y * r) d ⌝ }
 {
     let u = (y as u64) * r;
@@ -25,7 +26,7 @@ pub fn reduce(y: u32, r: u64) -> Reduction
 
 // |u − 2^31| over 8: it is the magnitude that is floored, whatever the sign.
 fn magnitude(u: u64) -> u64
-    ensures { λ r. ⌜ r ≡ reducedOf 7 3 u ⌝ }
+    ensures { λ r. ⌜ r ≡ reducedOf k32 t32 u ⌝ }
 {
     if 2147483648 <= u {
         (u - 2147483648) / 8
@@ -82,7 +83,7 @@ fn less(positive: bool, x: u64, y: u64) -> u64
 // Step 3, the series b of each operation.
 pub fn reciprocal_series(positive: bool, a: u64) -> u64
     requires { ⌜ a < 2 ^ 21 ⌝ }
-    ensures { λ r. ⌜ (r ≡ seriesOf 7 Reciprocal positive a) × (r < 2 ^ 29) ⌝ }
+    ensures { λ r. ⌜ (r ≡ seriesOf k32 Reciprocal positive a) × (r < 2 ^ 29) ⌝ }
 {
     let t = products(a);
     let first = less(positive, 268435456, a);
@@ -91,7 +92,7 @@ pub fn reciprocal_series(positive: bool, a: u64) -> u64
 
 pub fn root_series(positive: bool, a: u64) -> u64
     requires { ⌜ a < 2 ^ 21 ⌝ }
-    ensures { λ r. ⌜ (r ≡ seriesOf 7 Root positive a) × (r < 2 ^ 29) ⌝ }
+    ensures { λ r. ⌜ (r ≡ seriesOf k32 Root positive a) × (r < 2 ^ 29) ⌝ }
 {
     let t = products(a);
     let first = plus(positive, 549755813888, 1024 * a);
@@ -100,7 +101,7 @@ pub fn root_series(positive: bool, a: u64) -> u64
 
 pub fn inverse_root_series(positive: bool, a: u64) -> u64
     requires { ⌜ a < 2 ^ 21 ⌝ }
-    ensures { λ r. ⌜ (r ≡ seriesOf 7 InverseRoot positive a) × (r < 2 ^ 29) ⌝ }
+    ensures { λ r. ⌜ (r ≡ seriesOf k32 InverseRoot positive a) × (r < 2 ^ 29) ⌝ }
 {
     let t = products(a);
     let even = 549755813888 + 768 * t.square + 12 * t.cross;

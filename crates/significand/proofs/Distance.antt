@@ -7,8 +7,9 @@ use native.Mathlib.Nat.{mul-sub}
 use native.Mathlib.Omega.{arith}
 use Rattle.kinds.specs.declared.Op.{Op}
 use Rattle.kinds.specs.declared.Op.the-variants.{Reciprocal, Root, InverseRoot}
+use Rattle.significand.specs.Width.{Significand}
 use Rattle.significand.specs.Steps.{indexOf, factorOf, signOf, reducedOf, seriesOf, multiplierOf, rawOf}
-use Rattle.significand.specs.Distance.{Significand, Over, Near, distanceOf}
+use Rattle.significand.specs.Distance.{Over, Near, boundOf}
 use Rattle.significand.proofs.Close.{Close, series-close}
 use Rattle.significand.proofs.Scale.{whole-is, whole-least, over-least, under-less, over-more}
 use Rattle.significand.proofs.General.{reachOf, general}
@@ -45,7 +46,7 @@ module _ (op : Op) (k t y p : ℕ) (h : 7 ≤ k) (e : p ≤ 1) (Y : Significand 
       (multiplies k r p e (least k t y h Y) (most k t y h Y) op) close
 
 -- the distances promised are no less than those of the general law, and at most 12
-promised : (op : Op) → (reachOf op ≤ distanceOf op) × (distanceOf op ≤ 12)
+promised : (op : Op) → (reachOf op ≤ boundOf op) × (boundOf op ≤ 12)
 promised Reciprocal = omega arith
 promised Root = omega arith
 promised InverseRoot = omega arith
@@ -55,14 +56,14 @@ module _ (op : Op) (k t y p : ℕ) (h : 7 ≤ k) (e : p ≤ 1) (Y : Significand 
   g = rawOf k t op y p
 
   -- THE THEOREM: g is less than 12, 8 and 8 away
-  pub distance : Near op k t y p (distanceOf op) (rawOf k t op y p)
+  pub distance : Near op k t y p (boundOf op) (rawOf k t op y p)
   distance =
       let near : Near op k t y p (reachOf op) g = within op k t y p h e Y in
-      let over : Over op k (3 * k + t - 1) y p (g + distanceOf op) =
-      over-more op k (3 * k + t - 1) y p (g + reachOf op) (g + distanceOf op) (omega (arith, promised op)) (near .over) in
+      let over : Over op k (3 * k + t - 1) y p (g + boundOf op) =
+      over-more op k (3 * k + t - 1) y p (g + reachOf op) (g + boundOf op) (omega (arith, promised op)) (near .over) in
       record {
-        enough = omega (arith, over-least k t y p (g + distanceOf op) h e Y op over, whole-least k h, promised op);
-        under = under-less op k (3 * k + t - 1) y p (g - reachOf op) (g - distanceOf op) (omega (arith, promised op)) (near .under);
+        enough = omega (arith, over-least k t y p (g + boundOf op) h e Y op over, whole-least k h, promised op);
+        under = under-less op k (3 * k + t - 1) y p (g - reachOf op) (g - boundOf op) (omega (arith, promised op)) (near .under);
         over = over;
       }
 

@@ -9,7 +9,8 @@ use lib.Pow.{pow-pos}
 use Rattle.kinds.specs.declared.Op.{Op}
 use Rattle.kinds.specs.declared.Op.the-variants.{Reciprocal, Root, InverseRoot}
 use Rattle.numbers.proofs.Exponents.{power-of}
-use Rattle.significand.specs.Distance.{Significand, Under, Over, Near}
+use Rattle.significand.specs.Width.{Significand}
+use Rattle.significand.specs.Distance.{Under, Over, Near}
 use Rattle.significand.proofs.Close.{Close}
 use Rattle.significand.proofs.Units.{Setting, Floored, root-multiplier, inverse-multiplier, recip-multiplier, root-under, root-over, inverse-under, inverse-over, recip-under, recip-over}
 use Rattle.significand.proofs.Scale.{setting, whole-is, whole-least, parity-most, quotient-scale, square-scale, root-power, inverse-power, whole-square, over-least}

@@ -11,7 +11,7 @@ use borrow.Author.Tests.{leb-true, leb-false}
 use Rattle.numbers.proofs.Ring.{E, v, #, _⊕_, _⊗_, _⊙_⊑_, nlin}
 use Rattle.numbers.proofs.Exponents.{power-of}
 use Rattle.significand.specs.Steps.{indexOf, factorOf, signOf, reducedOf}
-use Rattle.significand.specs.Distance.{Significand}
+use Rattle.significand.specs.Width.{Significand}
 use Rattle.significand.proofs.Scale.{whole-is}
 
 module _ (k t y : ℕ) (h : 7 ≤ k) (Y : Significand k t y) where

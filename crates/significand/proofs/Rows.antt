@@ -1,10 +1,14 @@
 -- The raw rows of document 01's table. Assumes nothing.
 use mathlib.Core.Path.{_≡_, refl}
-use Rattle.kinds.specs.Question.{ask}
+use Prim.Native.Nat.{ℕ}
+use lib.Dec.{T}
+use Rattle.kinds.specs.Operation.{isOperation, opOf}
 use Rattle.numbers.specs.Greatest.{greatest, greatestFrom}
+use Rattle.significand.specs.Width.{k32, t32}
 use Rattle.significand.specs.Steps.{indexOf, factorOf, signOf, reducedOf, sumOf, multiplierOf, rawOf}
-use Rattle.significand.specs.Call.{rawRefusal, rawAnswer}
+use Rattle.significand.specs.Call.{isSignificand, isParity, rawAnswer}
 use Rattle.significand.specs.Rows.{Worked}
+use Rattle.significand.proofs.Accepted.{unrefused, accepted-answer}
 
 -- the rows marked P, with what the second works out
 pub record RawRows : Type 0 where
@@ -14,13 +18,18 @@ pub record RawRows : Type 0 where
   pub root-of-two : rawAnswer 2 8388608 1 ≡ 379625062
   pub inverse-root-of-two : rawAnswer 3 8388608 1 ≡ 189812531
 
+-- the answer of an accepted call
+answered : (operation y p : ℕ) → T (isOperation operation) → T (isSignificand k32 t32 y) → T (isParity (opOf operation) p)
+    → rawAnswer operation y p ≡ rawOf k32 t32 (opOf operation) y p
+answered operation y p a b c = accepted-answer operation y p (unrefused operation y p a b c)
+
 pub raw-rows : RawRows
-unfolding rawRefusal rawAnswer ask indexOf factorOf signOf reducedOf sumOf multiplierOf rawOf greatest greatestFrom
+unfolding indexOf factorOf signOf reducedOf sumOf multiplierOf rawOf greatest greatestFrom
 raw-rows =
     record {
-      one = refl;
-      one-and-half = record { factor = refl; sign = refl; reduced = refl; series = refl; answer = refl };
-      last = refl;
-      root-of-two = refl;
-      inverse-root-of-two = refl;
+      one = answered 1 8388608 0 tt tt tt;
+      one-and-half = record { factor = refl; sign = refl; reduced = refl; series = refl; answer = answered 1 12582912 0 tt tt tt };
+      last = answered 1 16777215 0 tt tt tt;
+      root-of-two = answered 2 8388608 1 tt tt tt;
+      inverse-root-of-two = answered 3 8388608 1 tt tt tt;
     }

@@ -10,7 +10,8 @@ use Rattle.kinds.specs.declared.Op.{Op}
 use Rattle.kinds.specs.declared.Op.the-variants.{Reciprocal, Root, InverseRoot}
 use Rattle.numbers.proofs.Exponents.{power-of}
 use Rattle.numbers.proofs.Squares.{square-below}
-use Rattle.significand.specs.Distance.{Significand, Under, Over}
+use Rattle.significand.specs.Width.{Significand}
+use Rattle.significand.specs.Distance.{Under, Over}
 use Rattle.significand.proofs.Series.{whole-big}
 use Rattle.significand.proofs.Units.{Setting}
 

@@ -1,11 +1,12 @@
 -- The sizes of R, a and M at k = 7 and t = 3, by which all that the steps work out fits 64 bits. Assumes nothing.
-use Prim.Native.Nat.{ℕ, _+_, _*_, _^_, _≤_, _<_}
+use mathlib.Core.Path.{_≡_, refl}
+use Prim.Native.Nat.{ℕ, _+_, _*_, _/_, _^_, _≤_, _<_}
 use native.Mathlib.Omega.{arith}
 use Rattle.kinds.specs.declared.Op.{Op}
+use Rattle.significand.specs.Width.{k32, t32, Significand}
 use Rattle.significand.specs.Steps.{indexOf, factorOf, reducedOf, multiplierOf}
-use Rattle.significand.specs.Distance.{Significand}
 use Rattle.significand.proofs.General.{multiplier-most}
-use Rattle.significand.proofs.Reduction.{least, most, reduced-small}
+use Rattle.significand.proofs.Reduction.{least, most, reduced-small as reduced-below}
 use Rattle.significand.proofs.Multiplier.{multiplies}
 
 -- M is at most 2^(4k + 1)
@@ -13,18 +14,28 @@ multiplier-upto : (k r p : ℕ) → 7 ≤ k → p ≤ 1 → 2 ^ k ≤ r → r �
 multiplier-upto k r p h e least most op =
     multiplier-most k r p (multiplierOf k op r p) h e least most op (multiplies k r p e least most op)
 
--- what 64-bit code asks, at k = 7 and t = 3: R, a and M
-pub record Sizes (op : Op) (y p : ℕ) : Type 0 where
-  pub factor-most : factorOf 7 (indexOf 7 3 y) ≤ 256
-  pub reduced : reducedOf 7 3 (y * factorOf 7 (indexOf 7 3 y)) < 2 ^ 21
-  pub multiplier : multiplierOf 7 op (factorOf 7 (indexOf 7 3 y)) p ≤ 2 ^ 29
+-- the index, by the divisor that code has
+pub index-is : (y : ℕ) → indexOf k32 t32 y ≡ y / 65536
+unfolding indexOf
+index-is y = refl
 
-pub sizes : (op : Op) (y p : ℕ) → p ≤ 1 → Significand 7 3 y → Sizes op y p
-sizes op y p e Y =
-    let l : 128 ≤ factorOf 7 (indexOf 7 3 y) = least 7 3 y (omega arith) Y in
-    let m : factorOf 7 (indexOf 7 3 y) ≤ 256 = most 7 3 y (omega arith) Y in
-    record {
-      factor-most = m;
-      reduced = reduced-small 7 3 y (omega arith) Y;
-      multiplier = multiplier-upto 7 (factorOf 7 (indexOf 7 3 y)) p (omega arith) e l m op;
-    }
+module _ (y : ℕ) (Y : Significand k32 t32 y) where
+  factor-least : 128 ≤ factorOf k32 (y / 65536)
+  factor-least = rw (← index-is y) (least k32 t32 y (omega arith) Y)
+
+  factor-most : factorOf k32 (y / 65536) ≤ 256
+  factor-most = rw (← index-is y) (most k32 t32 y (omega arith) Y)
+
+  module _ (r : ℕ) (e : r ≡ factorOf k32 (y / 65536)) where
+    -- R has 9 bits
+    pub factor-small : r ≤ 256
+    factor-small = rw e factor-most
+
+    -- a has 21 bits
+    pub reduced-small : reducedOf k32 t32 (y * r) < 2 ^ 21
+    reduced-small = rw (e, ← index-is y) (reduced-below k32 t32 y (omega arith) Y)
+
+  -- M has 30 bits
+  pub multiplier-small : (op : Op) (p m : ℕ) → p ≤ 1 → m ≡ multiplierOf k32 op (factorOf k32 (y / 65536)) p → m < 2 ^ 30
+  multiplier-small op p m h e =
+      rw e (omega (arith, multiplier-upto k32 (factorOf k32 (y / 65536)) p (omega arith) h factor-least factor-most op))

@@ -5,6 +5,7 @@ use lib.Dec.{leb, ltb, eqb}
 use Rattle.kinds.specs.declared.Op.{Op}
 use Rattle.kinds.specs.Operation.{isOperation, opOf, isReciprocal}
 use Rattle.kinds.specs.Question.{ask}
+use Rattle.significand.specs.Width.{k32, t32}
 use Rattle.significand.specs.Steps.{rawOf}
 
 -- question 3: has the significand 3k + t bits, from 8,388,608 to 16,777,215?
@@ -19,10 +20,10 @@ isParity op p = eqb p 0 || (eqb p 1 && not (isReciprocal op))
 unfoldable pub rawRefusal : ℕ → ℕ → ℕ → ℕ
 rawRefusal operation y p =
     ask (isOperation operation) 1
-    (ask (isSignificand 7 3 y) 3
+    (ask (isSignificand k32 t32 y) 3
     (ask (isParity (opOf operation) p) 4
     0))
 
 -- the answer: g, and 0 after a "no"
 unfoldable pub rawAnswer : ℕ → ℕ → ℕ → ℕ
-rawAnswer operation y p = cond (eqb (rawRefusal operation y p) 0) (rawOf 7 3 (opOf operation) y p) 0
+rawAnswer operation y p = cond (eqb (rawRefusal operation y p) 0) (rawOf k32 t32 (opOf operation) y p) 0

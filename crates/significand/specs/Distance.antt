@@ -4,11 +4,6 @@ use Prim.Native.Nat.{ℕ, _+_, _*_, _-_, _^_, _≤_, _<_}
 use Rattle.kinds.specs.declared.Op.{Op}
 use Rattle.kinds.specs.declared.Op.the-variants.{Reciprocal, Root, InverseRoot}
 
--- y has 3k + t bits [8,388,608 to 16,777,215]
-pub record Significand (k t y : ℕ) : Type 0 where
-  pub least : 2 ^ (3 * k + t - 1) ≤ y
-  pub below : y < 2 ^ (3 * k + t)
-
 -- x is below 2^(4k) times the exact value
 abbrev pub Under : Op → ℕ → ℕ → ℕ → ℕ → ℕ → Type 0
 Under Reciprocal k m y p x = x * y < 2 ^ (4 * k + m)
@@ -28,7 +23,7 @@ pub record Near (op : Op) (k t y p d g : ℕ) : Type 0 where
   pub over : Over op k (3 * k + t - 1) y p (g + d)
 
 -- the distances: under 12, 8 and 8 units of 1 / 2^(4k) [1 / 268,435,456]
-abbrev pub distanceOf : Op → ℕ
-distanceOf Reciprocal = 12
-distanceOf Root = 8
-distanceOf InverseRoot = 8
+abbrev pub boundOf : Op → ℕ
+boundOf Reciprocal = 12
+boundOf Root = 8
+boundOf InverseRoot = 8

@@ -1,3 +1,4 @@
+pub mod Width
 pub mod Steps
 pub mod Call
 pub mod Distance

@@ -1,27 +1,26 @@
 -- The tests and the answers of operands that need no arithmetic. Assumes nothing.
-use mathlib.Core.Path.{_≡_, refl, sym, subst, _∙_}
+use mathlib.Core.Path.{_≡_, refl, _∙_}
 use mathlib.Core.Bool.{Bool, true, false, cond, not, _&&_, _||_}
 use mathlib.Core.Logic.{by-cases}
 use Prim.Native.Nat.{ℕ, _%_, _^_}
-use native.Mathlib.Decide.{decLt, ℕ-discrete}
+use native.Mathlib.Decide.{decLt}
 use native.Mathlib.Omega.{arith}
 use borrow.Author.Tests.{lt-ltb, le-ltb, le-leb, lt-leb, eq-eqb, ne-eqb}
 use lib.Dec.{eqb, ltb, leb}
 use Rattle.kinds.specs.declared.Op.{Op}
-use Rattle.kinds.specs.declared.Op.the-variants.{InverseRoot}
-use Rattle.kinds.specs.Operation.{opOf, isReciprocal}
-use Rattle.kinds.specs.Flag.{invalid}
-use Rattle.kinds.proofs.Questions.{reciprocal-named}
+use Rattle.kinds.specs.declared.Op.the-variants.{Reciprocal, Root, InverseRoot}
+use Rattle.kinds.specs.Operation.{isReciprocal}
+use Rattle.kinds.specs.Flag.{noFlag, invalid, divisionByZero}
 use Rattle.ieee.specs.Format.{binary32, infinity, quietNaN}
-use Rattle.ieee.specs.Answer.{Answer, answer, signed, toNaN, toZero, toInfinity}
-use Rattle.pattern.specs.Parts.{patternOf, Ranges}
-use Rattle.pattern.specs.Neighbour.{roundedAnswer}
+use Rattle.ieee.specs.Answer.{Answer, answer, withSignBit, toNaN, toZero, toInfinity}
+use Rattle.pattern.specs.Parts.{patternOf, FieldRanges}
+use Rattle.pattern.specs.Answer.{roundedAnswer}
 use Rattle.special.specs.Special.{isSpecial, specialTo}
 use Rattle.pattern.specs.declared.parts.Parts.{Parts}
-use Rattle.pattern.specs.declared.Rounded.{Rounded}
+use Rattle.pattern.specs.declared.answer.Rounded.{Rounded}
 
 -- tests of the fields are tests of the pattern
-module _ (x : Parts) (h : Ranges x) where
+module _ (x : Parts) (h : FieldRanges x) where
   pub nan-is : eqb (x .exponent) 255 && not (eqb (x .fraction) 0) ≡ ltb (infinity binary32) (patternOf (x .exponent) (x .fraction))
   nan-is =
       by-cases (decLt (x .exponent) 255)
@@ -66,14 +65,10 @@ module _ (x : Parts) (h : Ranges x) where
       (λ l. rw (ne-eqb (x .exponent) 255 (λ e. omega arith), lt-leb (infinity binary32) (patternOf (x .exponent) (x .fraction)) (omega (arith, h))))
       (λ l. rw (eq-eqb (x .exponent) 255 (omega (arith, h)), le-leb (infinity binary32) (patternOf (x .exponent) (x .fraction)) (omega (arith, h))))
 
-  special-by : (op : Op) (b z : Bool) → b ≡ isReciprocal op → z ≡ eqb (patternOf (x .exponent) (x .fraction)) 0
+  pub special-is : (op : Op) (z b : Bool) → z ≡ eqb (patternOf (x .exponent) (x .fraction)) 0 → b ≡ isReciprocal op
       → eqb (x .exponent) 255 || z || (eqb (x .sign) 1 && not b) ≡ isSpecial op x
   unfolding isSpecial
-  special-by op b z p e = rw (p, e, top-is)
-
-  pub special-is : (n : ℕ) (z : Bool) → z ≡ eqb (patternOf (x .exponent) (x .fraction)) 0
-      → eqb (x .exponent) 255 || z || (eqb (x .sign) 1 && not (eqb n 1)) ≡ isSpecial (opOf n) x
-  special-is n z e = special-by (opOf n) (eqb n 1) z (sym (reciprocal-named n)) e
+  special-is op z b e p = rw (p, e, top-is)
 
   pub nan-answer : (r : Rounded) → r ≡ record { bits = quietNaN binary32; flags = cond (ltb (x .fraction) 4194304) invalid 0 }
       → r ≡ roundedAnswer (toNaN binary32 (patternOf (x .exponent) (x .fraction)))
@@ -104,38 +99,38 @@ module _ (x : Parts) (h : Ranges x) where
       (toNaN binary32 (patternOf (x .exponent) (x .fraction))) (answer (quietNaN binary32) invalid)
       (toZero binary32 op (x .sign)) (toInfinity binary32 op (x .sign)))
 
-  pub special-answer : (n : ℕ) (z nan : Bool) (edge nans refusal inner r : Rounded)
+  pub special-answer : (op : Op) (z b nan : Bool) (edge nans refusal inner r : Rounded)
       → z ≡ eqb (patternOf (x .exponent) (x .fraction)) 0
+      → b ≡ isReciprocal op
       → nan ≡ ltb (infinity binary32) (patternOf (x .exponent) (x .fraction))
       → nans ≡ roundedAnswer (toNaN binary32 (patternOf (x .exponent) (x .fraction)))
       → refusal ≡ record { bits = quietNaN binary32; flags = cond true invalid 0 }
-      → edge ≡ cond (eqb (patternOf (x .exponent) (x .fraction)) 0) (roundedAnswer (toZero binary32 (opOf n) (x .sign))) (roundedAnswer (toInfinity binary32 (opOf n) (x .sign)))
-      → inner ≡ cond (eqb (x .sign) 1 && not z && not (eqb n 1)) refusal edge
+      → edge ≡ cond (eqb (patternOf (x .exponent) (x .fraction)) 0) (roundedAnswer (toZero binary32 op (x .sign))) (roundedAnswer (toInfinity binary32 op (x .sign)))
+      → inner ≡ cond (eqb (x .sign) 1 && not z && not b) refusal edge
       → r ≡ cond nan nans inner
-      → r ≡ roundedAnswer (specialTo (opOf n) x)
-  special-answer n z nan edge nans refusal inner r ez en ea er ee ei e =
-      rw (e, ei, er, ea, en, ee, ez) (in-order (opOf n) (eqb n 1) (sym (reciprocal-named n)))
+      → r ≡ roundedAnswer (specialTo op x)
+  special-answer op z b nan edge nans refusal inner r ez eb en ea er ee ei e =
+      rw (e, ei, er, ea, en, ee, ez) (in-order op b eb)
 
--- which operation it is, by its number
-op-inverse : (n : ℕ) → (n ≡ 1 → ⊥) → (n ≡ 2 → ⊥) → opOf n ≡ InverseRoot
-op-inverse n p q = simp (ne-eqb n 1 p, ne-eqb n 2 q)
+-- the answers of each operation at zero and at infinity
+module _ (op : Op) (s b : ℕ) (r : Rounded) where
+  pub reciprocal-zero : op ≡ Reciprocal → r ≡ roundedAnswer (answer (withSignBit binary32 s (infinity binary32)) divisionByZero)
+      → r ≡ roundedAnswer (toZero binary32 op s)
+  reciprocal-zero o e = rw o e
 
-by-operation : (P : ℕ → Type 0) (n : ℕ) → P 1 → P 2 → ((n ≡ 1 → ⊥) → (n ≡ 2 → ⊥) → P n) → P n
-by-operation P n a b c =
-    by-cases (ℕ-discrete n 1) (λ e. subst P (sym e) a) (λ p. by-cases (ℕ-discrete n 2) (λ e. subst P (sym e) b) (λ q. c p q))
+  pub root-zero : op ≡ Root → b ≡ withSignBit binary32 s 0 → r ≡ roundedAnswer (answer b noFlag) → r ≡ roundedAnswer (toZero binary32 op s)
+  root-zero o p e = rw (o, ← p) e
 
-pub zero-answer : (n s i b fl : ℕ) → i ≡ cond (not (eqb n 2)) (infinity binary32) 0 → b ≡ signed binary32 s i
-    → fl ≡ cond (not (eqb n 2)) 2 0 → _≡_ {A = Rounded} (record { bits = b; flags = fl }) (roundedAnswer (toZero binary32 (opOf n) s))
-zero-answer n s i b fl p q r =
-    rw (q, p, r)
-    (by-operation (λ (m : ℕ). _≡_ {A = Rounded} (record { bits = signed binary32 s (cond (not (eqb m 2)) (infinity binary32) 0); flags = cond (not (eqb m 2)) 2 0 })
-    (roundedAnswer (toZero binary32 (opOf m) s))) n refl refl
-    (λ x y. rw (op-inverse n x y, ne-eqb n 2 y)))
+  pub inverse-root-zero : op ≡ InverseRoot → r ≡ roundedAnswer (answer (withSignBit binary32 s (infinity binary32)) divisionByZero)
+      → r ≡ roundedAnswer (toZero binary32 op s)
+  inverse-root-zero o e = rw o e
 
-pub infinity-answer : (n s o i b : ℕ) → o ≡ cond (eqb n 1) s 0 → i ≡ cond (eqb n 2) (infinity binary32) 0 → b ≡ signed binary32 o i
-    → _≡_ {A = Rounded} (record { bits = b; flags = 0 }) (roundedAnswer (toInfinity binary32 (opOf n) s))
-infinity-answer n s o i b p q r =
-    rw (r, p, q)
-    (by-operation (λ (m : ℕ). _≡_ {A = Rounded} (record { bits = signed binary32 (cond (eqb m 1) s 0) (cond (eqb m 2) (infinity binary32) 0); flags = 0 })
-    (roundedAnswer (toInfinity binary32 (opOf m) s))) n refl refl
-    (λ x y. rw (op-inverse n x y, ne-eqb n 1 x, ne-eqb n 2 y)))
+  pub reciprocal-infinity : op ≡ Reciprocal → b ≡ withSignBit binary32 s 0 → r ≡ roundedAnswer (answer b noFlag)
+      → r ≡ roundedAnswer (toInfinity binary32 op s)
+  reciprocal-infinity o p e = rw (o, ← p) e
+
+  pub root-infinity : op ≡ Root → r ≡ roundedAnswer (answer (infinity binary32) noFlag) → r ≡ roundedAnswer (toInfinity binary32 op s)
+  root-infinity o e = rw o e
+
+  pub inverse-root-infinity : op ≡ InverseRoot → r ≡ roundedAnswer (answer 0 noFlag) → r ≡ roundedAnswer (toInfinity binary32 op s)
+  inverse-root-infinity o e = rw o e

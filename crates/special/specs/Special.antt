@@ -8,9 +8,9 @@ use Rattle.kinds.specs.Flag.{invalid}
 use Rattle.ieee.specs.Format.{binary32, infinity, quietNaN}
 use Rattle.ieee.specs.Answer.{Answer, answer, toNaN, toZero, toInfinity}
 use Rattle.pattern.specs.Parts.{patternOf}
-use Rattle.pattern.specs.Neighbour.{roundedAnswer}
+use Rattle.pattern.specs.Answer.{roundedAnswer}
 use Rattle.pattern.specs.declared.parts.Parts.{Parts}
-use Rattle.pattern.specs.declared.Rounded.{Rounded}
+use Rattle.pattern.specs.declared.answer.Rounded.{Rounded}
 
 abbrev pub isSpecialAt : Op → ℕ → ℕ → Bool
 isSpecialAt op s t = leb (infinity binary32) t || eqb t 0 || eqb s 1 && not (isReciprocal op)

@@ -1,54 +1,48 @@
 // Operands that need no arithmetic: NaN before the sign, then a negative operand of a root, then zeros, then infinities.
 ghost use mathlib.Core.Path.{_≡_};
 ghost use mathlib.Core.Bool.{cond};
-ghost use Prim.Native.Nat.{_≤_, _<_, max};
+ghost use Prim.Native.Nat.{_<_};
 ghost use lib.Dec.{eqb, ltb};
-ghost use Rattle.kinds.specs.Operation.{opOf};
-ghost use Rattle.kinds.specs.Flag.{invalid};
+ghost use Rattle.kinds.specs.Flag.{noFlag, invalid, divisionByZero};
 ghost use Rattle.ieee.specs.Format.{binary32, infinity, quietNaN};
-ghost use Rattle.ieee.specs.Answer.{toNaN, toZero, toInfinity};
-ghost use Rattle.pattern.specs.Parts.{patternOf, Ranges};
-ghost use Rattle.pattern.specs.Neighbour.{roundedAnswer};
+ghost use Rattle.ieee.specs.Answer.{answer, withSignBit, toNaN, toZero, toInfinity};
+ghost use Rattle.pattern.specs.Parts.{patternOf, FieldRanges};
+ghost use Rattle.pattern.specs.Answer.{roundedAnswer};
 ghost use Rattle.special.specs.Special.{isSpecial, specialTo, edgeOf};
-use kinds::Flag;
-use kinds::Operation;
-use pattern::Rounded;
-use pattern::neighbour::flag_if;
-use pattern::neighbour::with_sign;
+use kinds::Flags;
+use kinds::Op;
+use pattern::answer::Rounded;
+use pattern::answer::flag_if;
+use pattern::answer::with_sign;
 use pattern::parts::Parts;
 
 // Whether an operand is a NaN, infinity, zero, or a negative operand of a root.
-pub fn is_special(operation: Operation, x: Parts) -> bool
-    requires { ⌜ Ranges x ⌝ }
-    ensures { λ r. ⌜ r ≡ isSpecial (opOf (operation .0)) x ⌝ }
+pub fn is_special(op: Op, x: Parts) -> bool
+    requires { ⌜ FieldRanges x ⌝ }
+    ensures { λ r. ⌜ r ≡ isSpecial op x ⌝ }
 {
-    (x.exponent == 255) | is_zero(x) | ((x.sign == 1) & !(operation.0 == Operation::RECIPROCAL.0))
+    (x.exponent == 255) | is_zero(x) | ((x.sign == 1) & !op.is_reciprocal())
 }
 
 // The answer to such an operand.
-pub fn special(operation: Operation, x: Parts) -> Rounded
-    requires { ⌜ Ranges x ⌝ }
-    ensures { λ r. ⌜ r ≡ roundedAnswer (specialTo (opOf (operation .0)) x) ⌝ }
+pub fn special(op: Op, x: Parts) -> Rounded
+    requires { ⌜ FieldRanges x ⌝ }
+    ensures { λ r. ⌜ r ≡ roundedAnswer (specialTo op x) ⌝ }
 {
-    let reciprocal = operation.0 == Operation::RECIPROCAL.0;
-    let invalid = (x.sign == 1) & !is_zero(x) & !reciprocal;
+    let invalid = (x.sign == 1) & !is_zero(x) & !op.is_reciprocal();
     choose(
         is_nan(x),
         at_nan(x),
-        choose(invalid, not_a_number(true), at_edge(operation, x)),
+        choose(invalid, not_a_number(true), at_edge(op, x)),
     )
 }
 
 // Zeros and infinities.
-fn at_edge(operation: Operation, x: Parts) -> Rounded
-    requires { ⌜ Ranges x ⌝ }
-    ensures { λ r. ⌜ r ≡ edgeOf (opOf (operation .0)) x ⌝ }
+fn at_edge(op: Op, x: Parts) -> Rounded
+    requires { ⌜ FieldRanges x ⌝ }
+    ensures { λ r. ⌜ r ≡ edgeOf op x ⌝ }
 {
-    choose(
-        is_zero(x),
-        at_zero(operation, x.sign),
-        at_infinity(operation, x.sign),
-    )
+    choose(is_zero(x), at_zero(op, x.sign), at_infinity(op, x.sign))
 }
 
 fn choose(test: bool, a: Rounded, b: Rounded) -> Rounded
@@ -58,14 +52,14 @@ fn choose(test: bool, a: Rounded, b: Rounded) -> Rounded
 }
 
 fn is_nan(x: Parts) -> bool
-    requires { ⌜ Ranges x ⌝ }
+    requires { ⌜ FieldRanges x ⌝ }
     ensures { λ r. ⌜ r ≡ ltb (infinity binary32) (patternOf (x .exponent) (x .fraction)) ⌝ }
 {
     (x.exponent == 255) & (x.fraction != 0)
 }
 
 fn is_zero(x: Parts) -> bool
-    requires { ⌜ Ranges x ⌝ }
+    requires { ⌜ FieldRanges x ⌝ }
     ensures { λ r. ⌜ r ≡ eqb (patternOf (x .exponent) (x .fraction)) 0 ⌝ }
 {
     (x.exponent == 0) & (x.fraction == 0)
@@ -77,46 +71,54 @@ fn not_a_number(raises: bool) -> Rounded
 {
     Rounded {
         bits: 0x7FC0_0000,
-        flags: flag_if(raises, Flag::INVALID),
+        flags: flag_if(raises, Flags::INVALID),
     }
 }
 
 // A signalling NaN, whose top fraction bit is 0, raises invalid.
 fn at_nan(x: Parts) -> Rounded
-    requires { ⌜ Ranges x ⌝ }
+    requires { ⌜ FieldRanges x ⌝ }
     ensures { λ r. ⌜ r ≡ roundedAnswer (toNaN binary32 (patternOf (x .exponent) (x .fraction))) ⌝ }
 {
     not_a_number(x.fraction < 0x40_0000)
 }
 
 // The root of a zero is that zero; the others give infinity of the same sign and division by zero.
-fn at_zero(operation: Operation, sign: u32) -> Rounded
+fn at_zero(op: Op, sign: u32) -> Rounded
     requires { ⌜ sign < 2 ⌝ }
-    ensures { λ r. ⌜ r ≡ roundedAnswer (toZero binary32 (opOf (operation .0)) sign) ⌝ }
+    ensures { λ r. ⌜ r ≡ roundedAnswer (toZero binary32 op sign) ⌝ }
 {
-    let root = operation.0 == Operation::ROOT.0;
-    Rounded {
-        bits: with_sign(sign, pick(!root, 0x7F80_0000, 0)),
-        flags: flag_if(!root, Flag::DIVISION_BY_ZERO),
+    match op {
+        Op::Reciprocal => divided_by_zero(sign),
+        Op::Root => exact(with_sign(sign, 0)),
+        Op::InverseRoot => divided_by_zero(sign),
     }
 }
 
 // The reciprocal is a zero of the same sign, the root of plus infinity itself, and its inverse root plus zero.
-fn at_infinity(operation: Operation, sign: u32) -> Rounded
+fn at_infinity(op: Op, sign: u32) -> Rounded
     requires { ⌜ sign < 2 ⌝ }
-    ensures { λ r. ⌜ r ≡ roundedAnswer (toInfinity binary32 (opOf (operation .0)) sign) ⌝ }
+    ensures { λ r. ⌜ r ≡ roundedAnswer (toInfinity binary32 op sign) ⌝ }
 {
-    let reciprocal = operation.0 == Operation::RECIPROCAL.0;
-    let root = operation.0 == Operation::ROOT.0;
-    Rounded {
-        bits: with_sign(pick(reciprocal, sign, 0), pick(root, 0x7F80_0000, 0)),
-        flags: 0,
+    match op {
+        Op::Reciprocal => exact(with_sign(sign, 0)),
+        Op::Root => exact(0x7F80_0000),
+        Op::InverseRoot => exact(0),
     }
 }
 
-// The first where the test holds, else the second.
-fn pick(test: bool, a: u32, b: u32) -> u32
-    ensures { λ r. ⌜ (r ≡ cond test a b) × (r ≤ max a b) ⌝ }
+fn divided_by_zero(sign: u32) -> Rounded
+    requires { ⌜ sign < 2 ⌝ }
+    ensures { λ r. ⌜ r ≡ roundedAnswer (answer (withSignBit binary32 sign (infinity binary32)) divisionByZero) ⌝ }
 {
-    if test { a } else { b }
+    Rounded {
+        bits: with_sign(sign, 0x7F80_0000),
+        flags: Flags::DIVISION_BY_ZERO,
+    }
+}
+
+fn exact(bits: u32) -> Rounded
+    ensures { λ r. ⌜ r ≡ roundedAnswer (answer bits noFlag) ⌝ }
+{
+    Rounded { bits, flags: 0 }
 }

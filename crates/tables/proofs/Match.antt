@@ -82,8 +82,9 @@ module _ (Q : ℕ → Type 0) (rule : ℕ → ℕ) (i : ℕ) (q : (v : ℕ) → 
             (λ n. let l = low (n .0) in let d : i ≡ k → ⊥ = n .1 in omega arith) (omega arith) (b .1),
       )
 
--- what the match of a table function asks: its contract r ≡ rule i, the keys counting up from 128
-pub looked-up : (rule : ℕ → ℕ) (i : ℕ) (vs : List ℕ) → 128 ≤ i → i < 128 + length vs → T (every (λ (j v : ℕ). eqb v (rule j)) 128 vs)
-    → Asked (λ (v : ℕ). (Unit {0} × Unit {0}) × (v ≡ rule i)) i 128 vs (Unit {0})
-looked-up rule i vs low high t =
-    answered (λ (v : ℕ). (Unit {0} × Unit {0}) × (v ≡ rule i)) rule i (λ v e. ((tt, tt), e)) 128 vs (Unit {0}) (λ n. low) high t
+-- what the match of a table function asks: its contract r ≡ n, where n is the rule at i, the keys counting up from 128
+pub looked-up : (rule : ℕ → ℕ) (i n : ℕ) → rule i ≡ n → (vs : List ℕ) → 128 ≤ i → i < 128 + length vs
+    → T (every (λ (j v : ℕ). eqb v (rule j)) 128 vs)
+    → Asked (λ (v : ℕ). (Unit {0} × Unit {0}) × (v ≡ n)) i 128 vs (Unit {0})
+looked-up rule i n is vs low high t =
+    answered (λ (v : ℕ). (Unit {0} × Unit {0}) × (v ≡ n)) rule i (λ v e. ((tt, tt), e ∙ is)) 128 vs (Unit {0}) (λ l. low) high t

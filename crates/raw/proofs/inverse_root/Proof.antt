@@ -1,7 +1,7 @@
 -- `raw::inverse_root` meets its contract. Assumes nothing.
-use Rattle.series.proofs.Parts.{raw-is}
-use Rattle.series.proofs.Bounds.{multiplier-small}
 use borrow.Author.Needs.{needs}
+use Rattle.significand.proofs.Sizes.{multiplier-small}
+use Rattle.raw.proofs.Products.{raw-is}
 use Rattle.raw.proofs.inverse_root.Statement.{statement}
 use Rattle.raw.proofs.inverse_root.Tie as tie
 
@@ -17,14 +17,14 @@ reduce-requires c κs = search needs
 inverse-root-series-requires : tie.Need-inverse-root-series-requires
 inverse-root-series-requires c κs = search needs
 
-cast-inverse-root : tie.Need-cast-inverse-root
-cast-inverse-root c = search needs
+cast-multiplier : tie.Need-cast-multiplier
+cast-multiplier c = search needs
 
-inverse-root-requires : tie.Need-inverse-root-requires
-inverse-root-requires c κs = search needs
+multiplier-requires : tie.Need-multiplier-requires
+multiplier-requires c κs = search needs
 
-scaled-requires : tie.Need-scaled-requires
-scaled-requires c κs = (search multiplier-small, search needs)
+shifted-product-requires : tie.Need-shifted-product-requires
+shifted-product-requires c κs = (search multiplier-small, search needs)
 
 returns : tie.Need-returns
 returns c = search raw-is
@@ -37,7 +37,7 @@ inverse-root-spec =
     factor-requires
     reduce-requires
     inverse-root-series-requires
-    cast-inverse-root
-    inverse-root-requires
-    scaled-requires
+    cast-multiplier
+    multiplier-requires
+    shifted-product-requires
     returns)

@@ -1,8 +1,8 @@
 -- `raw::reciprocal` meets its contract. Assumes nothing.
-use native.Mathlib.Omega.{arith}
-use Rattle.series.proofs.Parts.{reciprocal-raw-is}
-use Rattle.series.proofs.Bounds.{factor-small}
 use borrow.Author.Needs.{needs}
+use native.Mathlib.Omega.{arith}
+use Rattle.significand.proofs.Sizes.{factor-small}
+use Rattle.raw.proofs.Products.{reciprocal-raw-is}
 use Rattle.raw.proofs.reciprocal.Statement.{statement}
 use Rattle.raw.proofs.reciprocal.Tie as tie
 
@@ -18,11 +18,11 @@ reduce-requires c κs = search needs
 reciprocal-series-requires : tie.Need-reciprocal-series-requires
 reciprocal-series-requires c κs = search needs
 
-mul-scaled : tie.Need-mul-scaled
-mul-scaled c = let a = c .before .before .before in omega (arith, factor-small (a .args .y) (a .pre .0) (a .pre .1) (c .before .before .factor .result) (c .before .before .factor .ensures))
+mul-shifted-product : tie.Need-mul-shifted-product
+mul-shifted-product c = let a = c .before .before .before in omega (arith, factor-small (a .args .y) (a .pre) (c .before .before .factor .result) (c .before .before .factor .ensures))
 
-scaled-requires : tie.Need-scaled-requires
-scaled-requires c κs = let a = c .before .before .before in omega (arith, factor-small (a .args .y) (a .pre .0) (a .pre .1) (c .before .before .factor .result) (c .before .before .factor .ensures))
+shifted-product-requires : tie.Need-shifted-product-requires
+shifted-product-requires c κs = let a = c .before .before .before in omega (arith, factor-small (a .args .y) (a .pre) (c .before .before .factor .result) (c .before .before .factor .ensures))
 
 returns : tie.Need-returns
 returns c = search reciprocal-raw-is
@@ -35,6 +35,6 @@ reciprocal-spec =
     factor-requires
     reduce-requires
     reciprocal-series-requires
-    mul-scaled
-    scaled-requires
+    mul-shifted-product
+    shifted-product-requires
     returns)

@@ -1,7 +1,7 @@
 -- `raw::root` meets its contract. Assumes nothing.
-use Rattle.series.proofs.Parts.{raw-is}
-use Rattle.series.proofs.Bounds.{multiplier-small}
 use borrow.Author.Needs.{needs}
+use Rattle.significand.proofs.Sizes.{multiplier-small}
+use Rattle.raw.proofs.Products.{raw-is}
 use Rattle.raw.proofs.root.Statement.{statement}
 use Rattle.raw.proofs.root.Tie as tie
 
@@ -17,14 +17,14 @@ reduce-requires c κs = search needs
 root-series-requires : tie.Need-root-series-requires
 root-series-requires c κs = search needs
 
-cast-root : tie.Need-cast-root
-cast-root c = search needs
+cast-multiplier : tie.Need-cast-multiplier
+cast-multiplier c = search needs
 
-root-requires : tie.Need-root-requires
-root-requires c κs = search needs
+multiplier-requires : tie.Need-multiplier-requires
+multiplier-requires c κs = search needs
 
-scaled-requires : tie.Need-scaled-requires
-scaled-requires c κs = (search multiplier-small, search needs)
+shifted-product-requires : tie.Need-shifted-product-requires
+shifted-product-requires c κs = (search multiplier-small, search needs)
 
 returns : tie.Need-returns
 returns c = search raw-is
@@ -37,7 +37,7 @@ root-spec =
     factor-requires
     reduce-requires
     root-series-requires
-    cast-root
-    root-requires
-    scaled-requires
+    cast-multiplier
+    multiplier-requires
+    shifted-product-requires
     returns)

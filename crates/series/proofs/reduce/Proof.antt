@@ -7,7 +7,7 @@ use Rattle.series.proofs.reduce.Statement.{statement}
 use Rattle.series.proofs.reduce.Tie as tie
 
 mul-u : tie.Need-mul-u
-mul-u c = omega (arith, reduced-product (c .args .y) (c .pre .0) (c .pre .1) (c .args .r) (c .pre .2))
+mul-u c = omega (arith, reduced-product (c .args .y) (c .args .r) (c .pre .0) (c .pre .1))
 
 magnitude-requires : tie.Need-magnitude-requires
 magnitude-requires c κs = search needs

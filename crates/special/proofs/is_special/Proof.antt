@@ -7,8 +7,11 @@ use Rattle.special.proofs.is_special.Tie as tie
 is-zero-requires : tie.Need-is-zero-requires
 is-zero-requires c κs = search needs
 
+is-reciprocal-requires : tie.Need-is-reciprocal-requires
+is-reciprocal-requires c κs = search needs
+
 returns : tie.Need-returns
 returns c = search special-is
 
 pub is-special-spec : {M : Type 1} → statement M
-is-special-spec = tie.close (tie.spec is-zero-requires returns)
+is-special-spec = tie.close (tie.spec is-zero-requires is-reciprocal-requires returns)

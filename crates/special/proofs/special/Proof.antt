@@ -7,6 +7,9 @@ use Rattle.special.proofs.special.Tie as tie
 is-zero-requires : tie.Need-is-zero-requires
 is-zero-requires c κs = search needs
 
+is-reciprocal-requires : tie.Need-is-reciprocal-requires
+is-reciprocal-requires c κs = search needs
+
 is-nan-requires : tie.Need-is-nan-requires
 is-nan-requires c κs = search needs
 
@@ -33,6 +36,7 @@ special-spec =
     tie.close
     (tie.spec
     is-zero-requires
+    is-reciprocal-requires
     is-nan-requires
     at-nan-requires
     not-a-number-requires

@@ -1,28 +1,46 @@
--- `binary32::below::below` meets its contract: the operation by its number. Assumes nothing.
+-- `binary32::below::below` meets its contract: a law for each operation. Assumes nothing.
 use borrow.Author.Needs.{needs}
-use Rattle.binary32.proofs.Results.{below-first, below-second, below-third}
+use Rattle.binary32.proofs.Results.{below-reciprocal, below-root, below-inverse-root}
 use Rattle.binary32.proofs.below.below.Statement.{statement}
 use Rattle.binary32.proofs.below.below.Tie as tie
+
+enum-told : tie.Need-enum-told
+enum-told c = search needs
 
 reciprocal-requires : tie.Need-reciprocal-requires
 reciprocal-requires c κs = search needs
 
-returns : tie.Need-returns
-returns c = search below-first
+enum-told-2 : tie.Need-enum-told-2
+enum-told-2 c = search needs
 
 root-requires : tie.Need-root-requires
 root-requires c κs = search needs
 
-returns-2 : tie.Need-returns-2
-returns-2 c = search below-second
+enum-told-3 : tie.Need-enum-told-3
+enum-told-3 c = search needs
 
 inverse-root-requires : tie.Need-inverse-root-requires
 inverse-root-requires c κs = search needs
 
+returns : tie.Need-returns
+returns c = search below-reciprocal
+
+returns-2 : tie.Need-returns-2
+returns-2 c = search below-root
+
 returns-3 : tie.Need-returns-3
-returns-3 c = search (below-third (c .before .before .before .before .if1 .left) (c .before .if2 .left))
+returns-3 c = search below-inverse-root
 
 pub below-spec : {M : Type 1} → statement M
 below-spec =
     tie.close
-    (tie.spec reciprocal-requires returns root-requires returns-2 inverse-root-requires returns-3)
+    (tie.spec
+    enum-told
+    reciprocal-requires
+    enum-told-2
+    root-requires
+    enum-told-3
+    inverse-root-requires
+    returns
+    returns-2
+    returns-3)

@@ -1,14 +1,15 @@
 -- `binary32::below::inverse_root` meets its contract: the raw answer is near, and the floor that it leads to gives the neighbour. Assumes nothing.
 use borrow.Author.Needs.{needs}
-use Rattle.binary32.proofs.Results.{inverse-root-near, inverse-root-small, inverse-root-below}
+use Rattle.binary32.proofs.Results.{inverse-root-near, inverse-root-small, result-below}
 use Rattle.binary32.proofs.below.inverse_root.Statement.{statement}
 use Rattle.binary32.proofs.below.inverse_root.Tie as tie
+use Rattle.raw.proofs.inverse_root.Reads as inverse-root-reads′
 
 scale-requires : tie.Need-scale-requires
 scale-requires c κs = search needs
 
-sub-p : tie.Need-sub-p
-sub-p c = search needs
+sub-twice : tie.Need-sub-twice
+sub-twice c = search needs
 
 cast-inverse-root : tie.Need-cast-inverse-root
 cast-inverse-root c = search needs
@@ -23,28 +24,28 @@ cast-g : tie.Need-cast-g
 cast-g c = search needs
 
 inverse-root-requires-2 : tie.Need-inverse-root-requires-2
-inverse-root-requires-2 c κs = (search needs, search needs, search needs, search needs, search inverse-root-near)
+inverse-root-requires-2 c κs = (search needs, search needs, search needs, search inverse-root-near)
 
-sub-lower : tie.Need-sub-lower
-sub-lower c = search needs
+add-lower : tie.Need-add-lower
+add-lower c = search needs
 
 lower-requires : tie.Need-lower-requires
 lower-requires c κs = (search inverse-root-small, search needs)
 
 returns : tie.Need-returns
-returns c = search inverse-root-below
+returns c = search result-below
 
 pub inverse-root-spec : {M : Type 1} → statement M
 inverse-root-spec =
     tie.close
     (tie.spec
     scale-requires
-    sub-p
+    sub-twice
     cast-inverse-root
     cast-inverse-root-2
     inverse-root-requires
     cast-g
     inverse-root-requires-2
-    sub-lower
+    add-lower
     lower-requires
     returns)

@@ -1,8 +1,9 @@
 -- `binary32::below::reciprocal` meets its contract: the raw answer is near, and the floor that it leads to gives the neighbour. Assumes nothing.
 use borrow.Author.Needs.{needs}
-use Rattle.binary32.proofs.Results.{reciprocal-near, reciprocal-small, reciprocal-below}
+use Rattle.binary32.proofs.Results.{reciprocal-near, reciprocal-small, result-below}
 use Rattle.binary32.proofs.below.reciprocal.Statement.{statement}
 use Rattle.binary32.proofs.below.reciprocal.Tie as tie
+use Rattle.raw.proofs.reciprocal.Reads as reciprocal-reads′
 
 scale-requires : tie.Need-scale-requires
 scale-requires c κs = search needs
@@ -17,7 +18,7 @@ cast-g : tie.Need-cast-g
 cast-g c = search needs
 
 reciprocal-requires-2 : tie.Need-reciprocal-requires-2
-reciprocal-requires-2 c κs = (search needs, search needs, search needs, search reciprocal-near)
+reciprocal-requires-2 c κs = (search needs, search needs, search reciprocal-near)
 
 sub-lower : tie.Need-sub-lower
 sub-lower c = search needs
@@ -26,7 +27,7 @@ lower-requires : tie.Need-lower-requires
 lower-requires c κs = (search reciprocal-small, search needs)
 
 returns : tie.Need-returns
-returns c = search reciprocal-below
+returns c = search result-below
 
 pub reciprocal-spec : {M : Type 1} → statement M
 reciprocal-spec =

@@ -1,14 +1,15 @@
 -- `binary32::below::root` meets its contract: the raw answer is near, and the floor that it leads to gives the neighbour. Assumes nothing.
 use borrow.Author.Needs.{needs}
-use Rattle.binary32.proofs.Results.{root-near, root-small, root-below}
+use Rattle.binary32.proofs.Results.{root-near, root-small, result-below}
 use Rattle.binary32.proofs.below.root.Statement.{statement}
 use Rattle.binary32.proofs.below.root.Tie as tie
+use Rattle.raw.proofs.root.Reads as root-reads′
 
 scale-requires : tie.Need-scale-requires
 scale-requires c κs = search needs
 
-add-p : tie.Need-add-p
-add-p c = search needs
+add-twice : tie.Need-add-twice
+add-twice c = search needs
 
 cast-root : tie.Need-cast-root
 cast-root c = search needs
@@ -23,28 +24,24 @@ cast-g : tie.Need-cast-g
 cast-g c = search needs
 
 root-requires-2 : tie.Need-root-requires-2
-root-requires-2 c κs = (search needs, search needs, search needs, search needs, search root-near)
-
-add-lower : tie.Need-add-lower
-add-lower c = search needs
+root-requires-2 c κs = (search needs, search needs, search needs, search root-near)
 
 lower-requires : tie.Need-lower-requires
 lower-requires c κs = (search root-small, search needs)
 
 returns : tie.Need-returns
-returns c = search root-below
+returns c = search result-below
 
 pub root-spec : {M : Type 1} → statement M
 root-spec =
     tie.close
     (tie.spec
     scale-requires
-    add-p
+    add-twice
     cast-root
     cast-root-2
     root-requires
     cast-g
     root-requires-2
-    add-lower
     lower-requires
     returns)

@@ -1,0 +1,46 @@
+-- `raw::answer` meets its contract: a law for each operation. Assumes nothing.
+use borrow.Author.Needs.{needs}
+use Rattle.raw.proofs.Products.{reciprocal-answer, root-answer, inverse-root-answer}
+use Rattle.raw.proofs.answer.Statement.{statement}
+use Rattle.raw.proofs.answer.Tie as tie
+
+enum-told : tie.Need-enum-told
+enum-told c = search needs
+
+reciprocal-requires : tie.Need-reciprocal-requires
+reciprocal-requires c κs = search needs
+
+enum-told-2 : tie.Need-enum-told-2
+enum-told-2 c = search needs
+
+root-requires : tie.Need-root-requires
+root-requires c κs = search needs
+
+enum-told-3 : tie.Need-enum-told-3
+enum-told-3 c = search needs
+
+inverse-root-requires : tie.Need-inverse-root-requires
+inverse-root-requires c κs = search needs
+
+returns : tie.Need-returns
+returns c = search reciprocal-answer
+
+returns-2 : tie.Need-returns-2
+returns-2 c = search root-answer
+
+returns-3 : tie.Need-returns-3
+returns-3 c = search inverse-root-answer
+
+pub answer-spec : {M : Type 1} → statement M
+answer-spec =
+    tie.close
+    (tie.spec
+    enum-told
+    reciprocal-requires
+    enum-told-2
+    root-requires
+    enum-told-3
+    inverse-root-requires
+    returns
+    returns-2
+    returns-3)

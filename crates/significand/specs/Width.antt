@@ -1,0 +1,23 @@
+-- The widths at which document 01 builds the raw unit, and the operands that it takes. Assumes nothing.
+use mathlib.Core.Path.{_≡_}
+use Prim.Native.Nat.{ℕ, _+_, _*_, _-_, _^_, _≤_, _<_}
+use Rattle.kinds.specs.declared.Op.{Op}
+use Rattle.kinds.specs.declared.Op.the-variants.{Reciprocal}
+
+-- k, the bits of a digit, and t, the bits below the three digits
+abbrev pub k32 : ℕ
+k32 = 7
+
+abbrev pub t32 : ℕ
+t32 = 3
+
+-- y has 3k + t bits [8,388,608 to 16,777,215]
+pub record Significand (k t y : ℕ) : Type 0 where
+  pub least : 2 ^ (3 * k + t - 1) ≤ y
+  pub below : y < 2 ^ (3 * k + t)
+
+-- what an operation takes: a significand of 24 bits and a parity, which is 0 for the reciprocal
+pub record Operand (op : Op) (y p : ℕ) : Type 0 where
+  pub significand : Significand k32 t32 y
+  pub parity : p ≤ 1
+  pub even : op ≡ Reciprocal → p ≡ 0
