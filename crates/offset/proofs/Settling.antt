@@ -17,10 +17,10 @@ use Rattle.kinds.specs.Guard.{placeOf, restOf}
 use Rattle.kinds.proofs.Halves.{zero-stays, up-stays, down-stays, down-as-up, up-exact, up-below, up-odd, nearest-even, nearest-above, nearest-half, nearest-rest, up-rest, down-rest, zero-rest}
 use Rattle.cutter.specs.Offset.{roundedOver}
 use Rattle.cutter.specs.Limits.{radiusMost}
-use Rattle.offset.specs.Inverse.{InverseOf, QuotientRange}
+use Rattle.offset.specs.Inverse.{InverseOf, ComponentRange, QuotientRange}
 use Rattle.offset.specs.Settled.{takenBy, settledBy}
 use Rattle.offset.proofs.Start.{start-below, start-above, start-most}
-use Rattle.offset.proofs.Places.{DoubledOver, rounded-is}
+use Rattle.offset.proofs.Places.{DoubledOver, rounded-is, offset-ranges, offset-short}
 
 -- the test, where 2n over √q is known by its floor and what is left
 module _ (n q floor left : ℕ) (pos : 0 < q) (doubled : DoubledOver n q floor left) (t m tie : ℕ) where
@@ -194,6 +194,13 @@ module _ (mode : Mode) (negative : Bool) (low shift n q r : ℕ) (ranges : Quoti
 
   pub settled-is : r ≡ roundedOver mode negative n q
   settled-is = rounded-is n q (found .floor) (found .left) ranges (found .doubled) mode negative r (found .is)
+
+-- an offset is not longer than the radius
+pub settled-short : (mode : Mode) (negative : Bool) (low shift component radius q r : ℕ) → ComponentRange component radius q → InverseOf q low shift
+    → r ≡ settledBy (restOf mode negative) (component * radius * low / 2 ^ shift) (component * radius) q → r ≤ radius
+settled-short mode negative low shift component radius q r ranges inverse e =
+    offset-short component radius q ranges mode negative r
+    (settled-is mode negative low shift (component * radius) q r (offset-ranges component radius q ranges) inverse e)
 
 -- ---- each rounding by its own rest
 

@@ -12,6 +12,7 @@ use mir.Syntax.{w64}
 use mir.Val.{Fits}
 use Rattle.numbers.proofs.Ring.{E, v, #, _⊕_, _⊗_, _⊙_⊑_, nlin×}
 use Rattle.kinds.specs.declared.Op.the-variants.{InverseRoot}
+use Rattle.significand.specs.Width.{k32, t32, Significand}
 use Rattle.significand.specs.Steps.{rawOf}
 use Rattle.significand.specs.Distance.{Near}
 use Rattle.significand.proofs.Accepted.{raw-near}
@@ -53,28 +54,25 @@ module _ (q : ℕ) (pos : 0 < q) (small : q < 2 ^ 35) where
       sym (pow-add 2 (leadingZeros 64 q) (exponentOf q)) ∙ ap (λ (j : ℕ). 2 ^ j) e
 
   -- q with its highest bit brought to the highest of 64
-  raised-least : 2 ^ 63 ≤ q * 2 ^ leadingZeros 64 q
-  raised-least = omega (arith, powers, mul-le-mul-right (2 ^ leadingZeros 64 q) top-is)
+  lifted-least : 2 ^ 63 ≤ q * 2 ^ leadingZeros 64 q
+  lifted-least = omega (arith, powers, mul-le-mul-right (2 ^ leadingZeros 64 q) top-is)
 
-  raised-most : q * 2 ^ leadingZeros 64 q < 2 ^ 64
-  raised-most =
+  lifted-most : q * 2 ^ leadingZeros 64 q < 2 ^ 64
+  lifted-most =
       let h : suc q ≤ 2 * 2 ^ exponentOf q = top-next in
       let pos : 0 < 2 ^ leadingZeros 64 q = pow-pos (leadingZeros 64 q) in
       omega (arith, powers, mul-le-mul-right (2 ^ leadingZeros 64 q) h)
 
-  raised-is : significandOf q ≡ q * 2 ^ leadingZeros 64 q / 2 ^ 40
-  raised-is = ap (λ (x : ℕ). x / 2 ^ 40) (mod-eq-of-lt raised-most)
+  lifted-is : significandOf q ≡ q * 2 ^ leadingZeros 64 q / 2 ^ 40
+  lifted-is = ap (λ (x : ℕ). x / 2 ^ 40) (mod-eq-of-lt lifted-most)
 
-  pub significand-least : 8388608 ≤ significandOf q
-  significand-least = rw raised-is (omega (arith, raised-least))
-
-  pub significand-most : significandOf q < 16777216
-  significand-most = rw raised-is (omega (arith, raised-most))
+  pub significand-is : Significand k32 t32 (significandOf q)
+  significand-is = record { least = rw lifted-is (omega (arith, lifted-least)); below = rw lifted-is (omega (arith, lifted-most)) }
 
   -- q · 2^23 lies from the significand to the next, times the power
   power-low : significandOf q * 2 ^ exponentOf q ≤ q * 2 ^ 23
   power-low =
-      rw raised-is
+      rw lifted-is
       (omega (
         arith,
         ap (λ (x : ℕ). q * x) powers,
@@ -85,7 +83,7 @@ module _ (q : ℕ) (pos : 0 < q) (small : q < 2 ^ 35) where
   power-high =
       let h : q * 2 ^ leadingZeros 64 q ≤ 2 ^ 40 * (q * 2 ^ leadingZeros 64 q / 2 ^ 40 + 1) =
       omega (arith, lt-mul-div-succ (q * 2 ^ leadingZeros 64 q) {b = 2 ^ 40} (omega arith)) in
-      rw raised-is (omega (arith, ap (λ (x : ℕ). q * x) powers, mul-le-mul-right (2 ^ exponentOf q) h))
+      rw lifted-is (omega (arith, ap (λ (x : ℕ). q * x) powers, mul-le-mul-right (2 ^ exponentOf q) h))
 
 -- an even power and the parity
 halves : (j : ℕ) → 2 ^ j ≡ 2 ^ (j / 2) * 2 ^ (j / 2) * 2 ^ (j % 2)
@@ -158,15 +156,15 @@ parity-most j = omega (arith, mod-lt j {m = 2} (omega arith))
 parity-power : (p : ℕ) → p ≤ 1 → (1 ≤ 2 ^ p) × (2 ^ p ≤ 2)
 parity-power p h = (pow-pos p, pow-le-pow-right {n = 2} (omega arith) h)
 
-module _ (q : ℕ) (pos : 0 < q) (small : q < 2 ^ 35) (g : ℕ) (near : Near InverseRoot 7 3 (significandOf q) (exponentOf q % 2) 8 g) where
+module _ (q : ℕ) (pos : 0 < q) (small : q < 2 ^ 35) (g : ℕ) (near : Near InverseRoot k32 t32 (significandOf q) (exponentOf q % 2) 8 g) where
   inverse-near : (24 ≤ g) × InverseOf q (g - 24) (27 + exponentOf q / 2)
   inverse-near =
       let y : ℕ = significandOf q in
       let j : ℕ = exponentOf q in
       let P : ℕ = 2 ^ (j % 2) in
       let h : ℕ = 2 ^ (j / 2) in
-      let y0 = significand-least q pos small in
-      let y1 = significand-most q pos small in
+      let y0 = significand-is q pos small .least in
+      let y1 = significand-is q pos small .below in
       let P0 = parity-power (j % 2) (parity-most j) .0 in
       let P1 = parity-power (j % 2) (parity-most j) .1 in
       let least = answer-least y P y0 y1 P0 P1 (g + 8) (near .over) in
@@ -187,11 +185,10 @@ module _ (q : ℕ) (pos : 0 < q) (small : q < 2 ^ 35) (g : ℕ) (near : Near Inv
         },
       )
 
-module _ (q : ℕ) (pos : 0 < q) (small : q < 2 ^ 35) (g : ℕ) (raw : g ≡ rawOf 7 3 InverseRoot (significandOf q) (exponentOf q % 2)) where
-  near : Near InverseRoot 7 3 (significandOf q) (exponentOf q % 2) 8 g
+module _ (q : ℕ) (pos : 0 < q) (small : q < 2 ^ 35) (g : ℕ) (raw : g ≡ rawOf k32 t32 InverseRoot (significandOf q) (exponentOf q % 2)) where
+  near : Near InverseRoot k32 t32 (significandOf q) (exponentOf q % 2) 8 g
   near =
-      raw-near InverseRoot (significandOf q) (exponentOf q % 2) g (significand-least q pos small) (significand-most q pos small)
-      (parity-most (exponentOf q)) raw
+      raw-near InverseRoot (significandOf q) (exponentOf q % 2) g (significand-is q pos small) (parity-most (exponentOf q)) raw
 
   pub answer-above : 24 ≤ g
   answer-above = inverse-near q pos small g near .0

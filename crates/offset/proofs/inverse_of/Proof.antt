@@ -1,7 +1,7 @@
 -- `offset::inverse_of` meets its contract: the raw answer lies within its distance, which is taken off. Assumes nothing.
 use native.Mathlib.Omega.{arith}
 use borrow.Author.Needs.{needs}
-use Rattle.offset.proofs.Significands.{zeros-most, zeros-fit, zeros-below, significand-least, significand-most, parity-most, answer-above, inverse-is}
+use Rattle.offset.proofs.Significands.{zeros-most, zeros-fit, zeros-below, significand-is, parity-most, answer-above, inverse-is}
 use Rattle.offset.proofs.inverse_of.Statement.{statement}
 use Rattle.offset.proofs.inverse_of.Tie as tie
 
@@ -18,7 +18,7 @@ cast-y-2 : tie.Need-cast-y-2
 cast-y-2 c = search needs
 
 inverse-root-requires : tie.Need-inverse-root-requires
-inverse-root-requires c κs = (search significand-least, search significand-most, search parity-most)
+inverse-root-requires c κs = (search significand-is, search parity-most)
 
 cast-low : tie.Need-cast-low
 cast-low c = search needs

@@ -1,8 +1,8 @@
 -- `offset::rounded_over` meets its contract: the start is near enough for one test. Assumes nothing.
 use borrow.Author.Needs.{needs}
 use Rattle.offset.proofs.Start.{start-fits, start-below}
-use Rattle.offset.proofs.Places.{offset-fits, offset-ranges, offset-short}
-use Rattle.offset.proofs.Settling.{settled-is}
+use Rattle.offset.proofs.Places.{offset-fits, offset-ranges}
+use Rattle.offset.proofs.Settling.{settled-is, settled-short}
 use Rattle.offset.proofs.rounded_over.Statement.{statement}
 use Rattle.offset.proofs.rounded_over.Tie as tie
 
@@ -22,7 +22,7 @@ settled-by-requires : tie.Need-settled-by-requires
 settled-by-requires c κs = (search offset-ranges, search (start-below, offset-ranges))
 
 returns : tie.Need-returns
-returns c = (search (settled-is, offset-ranges), search (offset-short, settled-is, offset-ranges))
+returns c = (search (settled-is, offset-ranges), search settled-short)
 
 pub rounded-over-spec : {M : Type 1} → statement M
 rounded-over-spec =
