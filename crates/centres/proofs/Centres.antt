@@ -15,13 +15,16 @@ use Rattle.words.specs.Signed.{signed, wordOf, withSign}
 use Rattle.words.specs.Parts.{partsOf}
 use Rattle.words.specs.Splice.{splice}
 use Rattle.words.proofs.Splicing.{three-words}
-use Rattle.words.proofs.Differences.{abs-neg, signed-small}
+use Rattle.words.proofs.Differences.{abs-neg, signed-small, parts-pos, magnitude-is, negative-is}
 use Rattle.words.specs.declared.Signed.{Signed}
-use Rattle.cutter.specs.Offset.{squaredLength, roundedOver, offsetOf}
-use Rattle.offset.specs.Inverse.{Ranges}
+use Rattle.cutter.specs.Offset.{squaredLength, offsetOf}
+use Rattle.cutter.proofs.Offsets.{offset-parts}
+use Rattle.cutter.proofs.Points.{height-is, record-is}
+use Rattle.offset.specs.Inverse.{ComponentRange}
 use Rattle.cutter.specs.Map.{Inner, heightAt, dxAt, dyAt}
 use Rattle.cutter.specs.Centre.{centreOf, pointAt, recordBytes}
-use Rattle.cutter.specs.Asked.{Sizes, Steps}
+use Rattle.cutter.specs.Limits.{sideMost, stepMost, differenceMost}
+use Rattle.cutter.specs.Accepted.{Sizes, Steps}
 use Rattle.normals.specs.Normal.{NormalOf, Measured}
 use Rattle.centres.specs.Words.{offsetParts, offsetsOf, wordsBytes}
 use Rattle.normals.specs.declared.Normal.{Normal}
@@ -38,7 +41,7 @@ module _ (n : Normal) (step radius : ℕ) (f : Measured n step) (g : Steps step 
   squared-most =
       omega (arith, f .squared, mul-le-mul (f .x-most) (f .x-most), mul-le-mul (f .y-most) (f .y-most), mul-le-mul (g .step-most) (g .step-most))
 
-  ranges-of : (component : ℕ) → component ≤ 100000 → component * component ≤ n .squared → Ranges component radius (n .squared)
+  ranges-of : (component : ℕ) → component ≤ differenceMost → component * component ≤ n .squared → ComponentRange component radius (n .squared)
   ranges-of component h k = record {
     component-most = h;
     radius-most = g .radius-most;
@@ -47,13 +50,13 @@ module _ (n : Normal) (step radius : ℕ) (f : Measured n step) (g : Steps step 
     most = squared-most;
   }
 
-  pub ranges-x : Ranges (n .x .magnitude) radius (n .squared)
+  pub ranges-x : ComponentRange (n .x .magnitude) radius (n .squared)
   ranges-x = ranges-of (n .x .magnitude) (f .x-most) (omega (arith, f .squared))
 
-  pub ranges-y : Ranges (n .y .magnitude) radius (n .squared)
+  pub ranges-y : ComponentRange (n .y .magnitude) radius (n .squared)
   ranges-y = ranges-of (n .y .magnitude) (f .y-most) (omega (arith, f .squared))
 
-  pub ranges-z : Ranges (2 * step) radius (n .squared)
+  pub ranges-z : ComponentRange (2 * step) radius (n .squared)
   ranges-z = ranges-of (2 * step) (omega (arith, g .step-most)) (omega (arith, f .squared))
 
 pub ruleset ranges = (ranges-x, ranges-y, ranges-z)
@@ -69,7 +72,7 @@ offsets-are mode n step radius x y z ex ey ez = cc
 
 -- ---- the coordinates of a map point
 
-coordinate-most : (c step : ℕ) → c ≤ 64 → step ≤ 10000 → c * step ≤ 640000
+coordinate-most : (c step : ℕ) → c ≤ sideMost → step ≤ stepMost → c * step ≤ 640000
 coordinate-most c step h k = mul-le-mul h k
 
 module _ (w d c q step radius : ℕ) (s : Sizes w d) (h : Inner w d c q) (g : Steps step radius) where
@@ -100,16 +103,21 @@ pub ruleset coordinate-small = (column-small, row-small)
 -- an offset by sign and magnitude is the component's
 offset-is : (mode : Mode) (z : ℤ) (s t : Signed) (radius l : ℕ) → s ≡ partsOf z → t ≡ offsetParts mode s radius l
     → withSign (t .negative) (t .magnitude) ≡ offsetOf mode z radius l
-unfolding offsetOf partsOf
 offset-is mode z s t radius l e f =
     ap (λ (t : Signed). withSign (t .negative) (t .magnitude)) f
-    ∙ ap (λ (s : Signed). withSign (s .negative) (roundedOver mode (s .negative) (s .magnitude * radius) l)) e
+    ∙ offset-parts mode z radius l (s .negative) (s .magnitude) _ (negative-is s z e) (magnitude-is s z e) refl
 
 module _ (mode : Mode) (m : List ℕ) (w d c q step radius : ℕ) (n : Normal) where
   squared-is : NormalOf (dxAt m w c q) (dyAt m w c q) n → Measured n step
       → n .squared ≡ squaredLength (dxAt m w c q) (dyAt m w c q) step
-  unfolding partsOf
-  squared-is f g = cc (abs-neg (dxAt m w c q), abs-neg (dyAt m w c q), f .x, f .y, g .squared)
+  squared-is f g =
+      cc (
+        abs-neg (dxAt m w c q),
+        abs-neg (dyAt m w c q),
+        magnitude-is (n .x) (negℤ (dxAt m w c q)) (f .x),
+        magnitude-is (n .y) (negℤ (dyAt m w c q)) (f .y),
+        g .squared,
+      )
 
   pub centre-is : (o : Offsets) (u x y z : ℕ) → Sizes w d → Inner w d c q → Steps step radius
       → NormalOf (dxAt m w c q) (dyAt m w c q) n → Measured n step → o ≡ offsetsOf mode n step radius
@@ -118,17 +126,17 @@ module _ (mode : Mode) (m : List ℕ) (w d c q step radius : ℕ) (n : Normal) w
       → y ≡ wordOf (signed (q * step) +ℤ withSign (o .y .negative) (o .y .magnitude))
       → z ≡ wordOf (signed u +ℤ withSign (o .z .negative) (o .z .magnitude))
       → wordsBytes (record { x = x; y = y; z = z }) ≡ recordBytes (centreOf mode step radius (pointAt m w c q))
-  unfolding wordsBytes recordBytes centreOf pointAt
+  unfolding wordsBytes
   centre-is o u x y z s h k f g eo eu ex ey ez =
       let up : Signed = record { negative = false; magnitude = 2 * step } in
       let l : n .squared ≡ squaredLength (dxAt m w c q) (dyAt m w c q) step = squared-is f g in
       let column : signed (c * step) ≡ pos (c * step) = signed-small (c * step) (omega (arith, column-most w d c q step radius s h k)) in
       let row : signed (q * step) ≡ pos (q * step) = signed-small (q * step) (omega (arith, row-most w d c q step radius s h k)) in
-      let height : signed u ≡ heightAt m w c q = unfold heightAt in ap signed eu in
+      let height : signed u ≡ heightAt m w c q = ap signed eu ∙ height-is m w c q in
       let ox = offset-is mode (negℤ (dxAt m w c q)) (n .x) (o .x) radius (n .squared) (f .x) (unfold offsetsOf in ap (λ (o : Offsets). o .x) eo) in
       let oy = offset-is mode (negℤ (dyAt m w c q)) (n .y) (o .y) radius (n .squared) (f .y) (unfold offsetsOf in ap (λ (o : Offsets). o .y) eo) in
-      let oz = offset-is mode (pos (2 * step)) up (o .z) radius (n .squared) (unfold partsOf in refl) (unfold offsetsOf in ap (λ (o : Offsets). o .z) eo) in
-      cc
+      let oz = offset-is mode (pos (2 * step)) up (o .z) radius (n .squared) (parts-pos (2 * step)) (unfold offsetsOf in ap (λ (o : Offsets). o .z) eo) in
+      cc (record-is mode step radius m w c q)
 
 -- ---- the record
 

@@ -5,6 +5,7 @@ use mathlib.Core.List.{List, _++_}
 use Rattle.kinds.specs.declared.Mode.{Mode}
 use Rattle.words.specs.Word.{wordBytes}
 use Rattle.words.specs.declared.Signed.{Signed}
+use Rattle.cutter.specs.Limits.{radiusMost}
 use Rattle.cutter.specs.Offset.{roundedOver}
 use Rattle.normals.specs.declared.Normal.{Normal}
 use Rattle.centres.specs.declared.Offsets.{Offsets}
@@ -26,9 +27,9 @@ offsetsOf mode n step radius =
 
 -- an offset is at most the radius
 pub record Short (o : Offsets) : Type 0 where
-  pub x : o .x .magnitude ≤ 12500
-  pub y : o .y .magnitude ≤ 12500
-  pub z : o .z .magnitude ≤ 12500
+  pub x : o .x .magnitude ≤ radiusMost
+  pub y : o .y .magnitude ≤ radiusMost
+  pub z : o .z .magnitude ≤ radiusMost
 
 -- the twelve bytes of three words
 unfoldable pub wordsBytes : Words → List ℕ

@@ -2,22 +2,21 @@
 ghost use mathlib.Core.Path.{_≡_};
 ghost use Prim.Native.Nat.{_+_, _≤_};
 ghost use lib.ListN.{length};
-ghost use Rattle.kinds.specs.Rounding.{modeOf};
 ghost use Rattle.words.specs.Splice.{splice};
-ghost use Rattle.offset.specs.Inverse.{Ranges, InverseOf};
+ghost use Rattle.offset.specs.Inverse.{ComponentRange, InverseOf};
 ghost use Rattle.cutter.specs.Centre.{centreOf, pointAt, recordBytes};
 ghost use Rattle.cutter.specs.Map.{Inner};
-ghost use Rattle.cutter.specs.Asked.{Ready, Steps};
+ghost use Rattle.cutter.specs.Accepted.{Ready, Steps};
 ghost use Rattle.normals.specs.Normal.{Measured};
 ghost use Rattle.centres.specs.Words.{offsetParts, offsetsOf, Short, wordsBytes};
-use cutter::trailer::Trailer;
-use kinds::Rounding;
+use kinds::Mode;
+use maps::height_word;
 use normals::Normal;
-use normals::height_word;
 use normals::normal_at;
 use offset::Inverse;
 use offset::inverse_of;
 use offset::rounded_over;
+use trailer::Fields;
 use words::Signed;
 use words::put_word;
 use words::wrapping_add_signed;
@@ -38,17 +37,17 @@ pub struct Words {
 
 // component × radius over the normal's length, rounded.
 fn offset_of(
-    rounding: Rounding,
+    mode: Mode,
     component: Signed,
     radius: u64,
     squared: u64,
     inverse: Inverse,
 ) -> Signed
-    requires { ⌜ Ranges (component .magnitude) radius squared × InverseOf squared (inverse .low) (inverse .shift) ⌝ }
-    ensures { λ r. ⌜ (r ≡ offsetParts (modeOf (rounding .0)) component radius squared) × (r .magnitude ≤ radius) ⌝ }
+    requires { ⌜ ComponentRange (component .magnitude) radius squared × InverseOf squared (inverse .low) (inverse .shift) ⌝ }
+    ensures { λ r. ⌜ (r ≡ offsetParts (mode) component radius squared) × (r .magnitude ≤ radius) ⌝ }
 {
     let magnitude = rounded_over(
-        rounding,
+        mode,
         component.negative,
         component.magnitude,
         radius,
@@ -62,10 +61,10 @@ fn offset_of(
 }
 
 // The offsets of a normal: one inverse root for all three.
-fn offsets_of(rounding: Rounding, normal: Normal, step: u64, radius: u64) -> Offsets
+fn offsets_of(mode: Mode, normal: Normal, step: u64, radius: u64) -> Offsets
     requires { ⌜ Measured normal step ⌝ }
     requires { ⌜ Steps step radius ⌝ }
-    ensures { λ r. ⌜ (r ≡ offsetsOf (modeOf (rounding .0)) normal step radius) × Short r ⌝ }
+    ensures { λ r. ⌜ (r ≡ offsetsOf (mode) normal step radius) × Short r ⌝ }
 {
     let squared = normal.squared;
     let inverse = inverse_of(squared);
@@ -73,21 +72,21 @@ fn offsets_of(rounding: Rounding, normal: Normal, step: u64, radius: u64) -> Off
         negative: false,
         magnitude: 2 * step,
     };
-    let x = offset_of(rounding, normal.x, radius, squared, inverse);
-    let y = offset_of(rounding, normal.y, radius, squared, inverse);
-    let z = offset_of(rounding, up, radius, squared, inverse);
+    let x = offset_of(mode, normal.x, radius, squared, inverse);
+    let y = offset_of(mode, normal.y, radius, squared, inverse);
+    let z = offset_of(mode, up, radius, squared, inverse);
     Offsets { x, y, z }
 }
 
 // The centre at an inner point: the map point plus the offsets.
-fn centre(rounding: Rounding, map: &[u8], trailer: Trailer, column: usize, row: usize) -> Words
+fn centre(mode: Mode, map: &[u8], trailer: Fields, column: usize, row: usize) -> Words
     requires { ⌜ Ready (now map) trailer ⌝ }
     requires { ⌜ Inner (trailer .width) (trailer .depth) column row ⌝ }
-    ensures { λ r. ⌜ wordsBytes r ≡ recordBytes (centreOf (modeOf (rounding .0)) (trailer .step) (trailer .radius) (pointAt (now (map .entry)) (trailer .width) column row)) ⌝ }
+    ensures { λ r. ⌜ wordsBytes r ≡ recordBytes (centreOf (mode) (trailer .step) (trailer .radius) (pointAt (now (map .entry)) (trailer .width) column row)) ⌝ }
 {
     let step = trailer.step;
     let normal = normal_at(map, trailer, column, row);
-    let o = offsets_of(rounding, normal, step, trailer.radius);
+    let o = offsets_of(mode, normal, step, trailer.radius);
     let height = height_word(
         map,
         row * trailer.width + column,
@@ -111,10 +110,10 @@ fn put_words(out: &mut [u8], at: usize, words: Words)
 
 // Puts the record of an inner point over the bytes from `at` on.
 pub fn put_point(
-    rounding: Rounding,
+    mode: Mode,
     map: &[u8],
     out: &mut [u8],
-    trailer: Trailer,
+    trailer: Fields,
     column: usize,
     row: usize,
     at: usize,
@@ -122,7 +121,7 @@ pub fn put_point(
     requires { ⌜ Ready (now map) trailer ⌝ }
     requires { ⌜ Inner (trailer .width) (trailer .depth) column row ⌝ }
     requires { ⌜ at + 12 ≤ length (now out) ⌝ }
-    ensures { λ _. ⌜ now (out .exit) ≡ splice at (recordBytes (centreOf (modeOf (rounding .0)) (trailer .step) (trailer .radius) (pointAt (now (map .entry)) (trailer .width) column row))) (now (out .entry)) ⌝ }
+    ensures { λ _. ⌜ now (out .exit) ≡ splice at (recordBytes (centreOf (mode) (trailer .step) (trailer .radius) (pointAt (now (map .entry)) (trailer .width) column row))) (now (out .entry)) ⌝ }
 {
-    put_words(out, at, centre(rounding, map, trailer, column, row));
+    put_words(out, at, centre(mode, map, trailer, column, row));
 }

@@ -135,6 +135,13 @@ unfolding offsetOf
 offset-most mode component radius q some part =
     rw (abs-sign (isNegative component)) (rounded-most (natAbs component) radius q some part mode (isNegative component))
 
+-- an offset from the sign and the magnitude of its component
+pub offset-parts : (mode : Mode) (component : ℤ) (radius q : ℕ) (negative : Bool) (n r : ℕ)
+    → negative ≡ isNegative component → n ≡ natAbs component → r ≡ roundedOver mode negative (n * radius) q
+    → withSign negative r ≡ offsetOf mode component radius q
+unfolding offsetOf
+offset-parts mode component radius q negative n r s a e = cc
+
 -- ---- down and up
 
 -- with the sign put on, up is one above down

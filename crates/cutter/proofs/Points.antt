@@ -1,17 +1,19 @@
 -- The points of an accepted map and their centres: the three coordinates alike, and how large they are. Assumes nothing.
 use mathlib.Core.Path.{_≡_, refl}
-use mathlib.Core.List.{List}
+use mathlib.Core.List.{List, _++_}
 use Prim.Native.Nat.{ℕ, zero, suc, _+_, _-_, _*_, _≤_, _<_}
 use native.Mathlib.Nat.{mul-le-mul, mul-pos}
 use native.Mathlib.Omega.{arith}
 use lib.Dec.{lit<}
 use lib.IntN.{ℤ, pos, negℤ, natAbs, _+ℤ_, _-ℤ_}
 use Rattle.kinds.specs.declared.Mode.{Mode}
+use Rattle.words.specs.Word.{wordAt, wordBytes}
+use Rattle.words.specs.Signed.{signed, wordOf}
 use Rattle.words.proofs.Differences.{abs-neg, abs-add, abs-sub}
 use Rattle.cutter.specs.Limits.{sideMost, heightMost}
 use Rattle.cutter.specs.Offset.{squaredLength, offsetOf}
 use Rattle.cutter.specs.Map.{Inner, widthOf, depthOf, stepOf, radiusOf, heightAt, dxAt, dyAt}
-use Rattle.cutter.specs.Centre.{Point, Centre, coordinate, centreOf, pointAt}
+use Rattle.cutter.specs.Centre.{Point, Centre, coordinate, centreOf, pointAt, recordBytes}
 use Rattle.cutter.specs.List.{countOf, columnOf, rowOf, innerPoint, centreAt}
 use Rattle.cutter.specs.Accepted.{Steps, Accepted}
 use Rattle.cutter.proofs.Offsets.{offset-most}
@@ -51,6 +53,20 @@ unfolding centreOf
 coordinate-is mode step radius p zero = refl
 coordinate-is mode step radius p (suc zero) = refl
 coordinate-is mode step radius p (suc (suc j)) = refl
+
+-- the height at a place, and the record of a point's centre, by the words that code reads and puts
+pub height-is : (m : List ℕ) (w c q : ℕ) → signed (wordAt m (4 * (q * w + c))) ≡ heightAt m w c q
+unfolding heightAt
+height-is m w c q = refl
+
+pub record-is : (mode : Mode) (step radius : ℕ) (m : List ℕ) (w c q : ℕ)
+    → let l = squaredLength (dxAt m w c q) (dyAt m w c q) step in
+      recordBytes (centreOf mode step radius (pointAt m w c q))
+      ≡ wordBytes (wordOf (pos (c * step) +ℤ offsetOf mode (negℤ (dxAt m w c q)) radius l))
+      ++ wordBytes (wordOf (pos (q * step) +ℤ offsetOf mode (negℤ (dyAt m w c q)) radius l))
+      ++ wordBytes (wordOf (heightAt m w c q +ℤ offsetOf mode (pos (2 * step)) radius l))
+unfolding recordBytes centreOf pointAt
+record-is mode step radius m w c q = refl
 
 -- centres are equal where their three coordinates are
 pub same-centre : (a b : Centre) → ((j : ℕ) → j < 3 → coordinate a j ≡ coordinate b j) → a ≡ b

@@ -3,6 +3,7 @@ use Prim.Native.Nat.{ℕ, _+_, _*_, _≤_}
 use mathlib.Core.Path.{_≡_}
 use lib.IntN.{ℤ, negℤ}
 use Rattle.words.specs.Parts.{partsOf}
+use Rattle.cutter.specs.Limits.{differenceMost}
 use Rattle.normals.specs.declared.Normal.{Normal}
 
 -- x and y are −dx and −dy by sign and magnitude
@@ -12,6 +13,6 @@ pub record NormalOf (dx dy : ℤ) (n : Normal) : Type 0 where
 
 -- squared is the squared length of the normal, and x and y are in their ranges
 pub record Measured (n : Normal) (step : ℕ) : Type 0 where
-  pub x-most : n .x .magnitude ≤ 100000
-  pub y-most : n .y .magnitude ≤ 100000
+  pub x-most : n .x .magnitude ≤ differenceMost
+  pub y-most : n .y .magnitude ≤ differenceMost
   pub squared : n .squared ≡ n .x .magnitude * n .x .magnitude + n .y .magnitude * n .y .magnitude + 4 * step * step

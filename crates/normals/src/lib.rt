@@ -1,4 +1,4 @@
-// Heights of a map and the normal at a point.
+// The normal at a point of a map.
 ghost use mathlib.Core.Path.{_≡_};
 ghost use Prim.Native.Nat.{_+_, _*_, _≤_, _<_};
 ghost use lib.IntN.{_-ℤ_};
@@ -6,32 +6,24 @@ ghost use Rattle.words.specs.Word.{wordAt};
 ghost use Rattle.words.specs.Signed.{signed};
 ghost use Rattle.words.specs.Parts.{partsOf};
 ghost use Rattle.cutter.specs.Map.{Inner, dxAt, dyAt};
-ghost use Rattle.cutter.specs.Asked.{Heights, Ready};
+ghost use Rattle.cutter.specs.Limits.{stepMost, differenceMost};
+ghost use Rattle.cutter.specs.Accepted.{Heights, Ready};
 ghost use Rattle.normals.specs.Normal.{NormalOf, Measured};
-use cutter::trailer::Trailer;
+use maps::biased;
+use maps::height_word;
+use trailer::Fields;
 use words::Signed;
 use words::difference;
-use words::raised;
-use words::word_at;
-
-// The word of the height at place i, counted row by row.
-pub fn height_word(map: &[u8], i: usize, count: usize) -> u64
-    requires { ⌜ i < count ⌝ }
-    requires { ⌜ Heights (now map) count ⌝ }
-    ensures { λ r. ⌜ (r ≡ wordAt (now (map .entry)) (4 * i)) × (r < 4294967296) ⌝ }
-{
-    word_at(map, 4 * i)
-}
 
 // The height at place i less that at place j.
 fn slope(map: &[u8], i: usize, j: usize, count: usize) -> Signed
     requires { ⌜ (i < count) × (j < count) ⌝ }
     requires { ⌜ Heights (now map) count ⌝ }
-    ensures { λ r. ⌜ (r ≡ partsOf (signed (wordAt (now (map .entry)) (4 * i)) -ℤ signed (wordAt (now (map .entry)) (4 * j)))) × (r .magnitude ≤ 100000) ⌝ }
+    ensures { λ r. ⌜ (r ≡ partsOf (signed (wordAt (now (map .entry)) (4 * i)) -ℤ signed (wordAt (now (map .entry)) (4 * j)))) × (r .magnitude ≤ differenceMost) ⌝ }
 {
     difference(
-        raised(height_word(map, i, count)),
-        raised(height_word(map, j, count)),
+        biased(height_word(map, i, count)),
+        biased(height_word(map, j, count)),
     )
 }
 
@@ -43,7 +35,7 @@ pub struct Normal {
 }
 
 // The normal at an inner point.
-pub fn normal_at(map: &[u8], trailer: Trailer, column: usize, row: usize) -> Normal
+pub fn normal_at(map: &[u8], trailer: Fields, column: usize, row: usize) -> Normal
     requires { ⌜ Ready (now map) trailer ⌝ }
     requires { ⌜ Inner (trailer .width) (trailer .depth) column row ⌝ }
     ensures { λ r. ⌜ NormalOf (dxAt (now (map .entry)) (trailer .width) column row) (dyAt (now (map .entry)) (trailer .width) column row) r × Measured r (trailer .step) ⌝ }
@@ -58,7 +50,7 @@ pub fn normal_at(map: &[u8], trailer: Trailer, column: usize, row: usize) -> Nor
 }
 
 fn squared_length(x: u64, y: u64, step: u64) -> u64
-    requires { ⌜ (x ≤ 100000) × (y ≤ 100000) × (step ≤ 10000) ⌝ }
+    requires { ⌜ (x ≤ differenceMost) × (y ≤ differenceMost) × (step ≤ stepMost) ⌝ }
     ensures { λ r. ⌜ r ≡ x * x + y * y + 4 * step * step ⌝ }
 {
     x * x + y * y + 4 * step * step

@@ -9,8 +9,9 @@ use native.Mathlib.Omega.{arith}
 use borrow.Author.Tests.{lt-ltb, le-ltb, le-leb, lt-leb}
 use lib.Dec.{leb}
 use lib.IntN.{ℤ, pos, negsuc, negℤ, natAbs, subℕ, _+ℤ_, _-ℤ_, negℤ-+ℤ, negℤ-negℤ, +ℤ-comm}
-use Rattle.words.specs.Signed.{signed, wordOf, withSign}
+use Rattle.words.specs.Signed.{signed, wordOf, withSign, isNegative}
 use Rattle.words.specs.Parts.{partsOf}
+use Rattle.words.specs.declared.Signed.{Signed}
 
 -- one order or the other
 pub either {ℓ} : {X : Type ℓ} (a b : ℕ) → (b ≤ a → X) → (a < b → X) → X
@@ -79,6 +80,18 @@ unfolding partsOf
 parts-lt a b h =
     let e : suc (b - suc a) ≡ b - a = omega arith in
     sym (ap partsOf (diff-lt a b h) ∙ cc)
+
+pub parts-pos : (n : ℕ) → record { negative = false; magnitude = n } ≡ partsOf (pos n)
+unfolding partsOf
+parts-pos n = refl
+
+pub magnitude-is : (s : Signed) (z : ℤ) → s ≡ partsOf z → s .magnitude ≡ natAbs z
+unfolding partsOf
+magnitude-is s z e = cc
+
+pub negative-is : (s : Signed) (z : ℤ) → s ≡ partsOf z → s .negative ≡ isNegative z
+unfolding partsOf
+negative-is s z e = cc
 
 -- the magnitude, whatever the sign
 pub abs-sign : (t : Bool) (g : ℕ) → natAbs (withSign t g) ≡ g

@@ -1,7 +1,8 @@
 -- `centres::centre` meets its contract: the words are those of the map point plus the offsets. Assumes nothing.
 use borrow.Author.Needs.{needs}
 use Rattle.centres.proofs.Centres.{coordinate-fits, coordinate-small, centre-is}
-use Rattle.normals.proofs.Slopes.{place-in, place-fits, line-fits}
+use Rattle.cutter.proofs.Places.{place-in}
+use Rattle.normals.proofs.Slopes.{place-fits, line-fits}
 use Rattle.centres.proofs.centre.Statement.{statement}
 use Rattle.centres.proofs.centre.Tie as tie
 

@@ -1,6 +1,7 @@
 -- `normals::normal_at` meets its contract: the places around an inner point are within the map. Assumes nothing.
 use borrow.Author.Needs.{needs}
-use Rattle.normals.proofs.Slopes.{line-fits, place-fits, right-fits, below-fits, above-is, left-in, right-in, above-in, below-in, normal-is}
+use Rattle.cutter.proofs.Places.{above-is, left-in, right-in, above-in, below-in}
+use Rattle.normals.proofs.Slopes.{line-fits, place-fits, right-fits, below-fits, normal-is}
 use Rattle.normals.proofs.normal_at.Statement.{statement}
 use Rattle.normals.proofs.normal_at.Tie as tie
 
