@@ -1,16 +1,16 @@
 -- What a list call that is not refused knows of its map and its buffer. Assumes nothing.
 use mathlib.Core.Path.{_≡_, refl, sym, ap, _∙_}
-use mathlib.Core.Bool.{Bool, true, false, cond, _&&_, true≢false}
+use mathlib.Core.Bool.{Bool, true, false, not, _&&_, true≢false}
 use mathlib.Core.List.{List}
 use Prim.Native.Nat.{ℕ, zero, suc, _+_, _-_, _*_, _≤_, _<_}
 use native.Mathlib.Nat.{not-suc-le-zero}
 use native.Mathlib.Omega.{arith}
-use borrow.Author.Tests.{leb-true, eqb-true, ne-eqb}
+use borrow.Author.Tests.{not-true, not-false, leb-true, eqb-true, ne-eqb}
 use lib.Dec.{leb, eqb}
 use lib.ListN.{length}
 use lib.IntN.{natAbs}
 use Rattle.kinds.specs.Rounding.{isRounding, modeOf}
-use Rattle.kinds.proofs.Questions.{yes, sure}
+use Rattle.kinds.proofs.Questions.{yes, sure, ask-yes, ask-no}
 use Rattle.words.specs.Word.{wordAt}
 use Rattle.words.specs.Signed.{signed}
 use Rattle.words.specs.Splice.{splice}
@@ -109,6 +109,16 @@ module _ (m : List ℕ) (room : ℕ) (z : mapRefusal m room ≡ 0) where
 pub map-asked : (rounding : ℕ) (m : List ℕ) (room : ℕ) → listRefusal rounding m room ≡ 0 → mapRefusal m room ≡ 0
 unfolding listRefusal
 map-asked rounding m room e = yes (isRounding rounding) 1 (mapRefusal m room) e .1
+
+-- how the code asks them
+pub two : (rounding : ℕ) (m : List ℕ) (room : ℕ) (known : Bool) → known ≡ isRounding rounding → not known ≡ true → 2 ≡ listRefusal rounding m room
+unfolding listRefusal
+two rounding m room known e n = ask-no _ 2 _ (sym e ∙ not-true known n)
+
+pub after-two : (rounding : ℕ) (m : List ℕ) (room : ℕ) (known : Bool) (r : ℕ) → known ≡ isRounding rounding → not known ≡ false
+    → r ≡ mapRefusal m room → r ≡ listRefusal rounding m room
+unfolding listRefusal
+after-two rounding m room known r e n f = ask-yes _ 2 _ r (sym e ∙ not-false known n) f
 
 -- an accepted call reports the list's length, and leaves the list at the buffer's front
 module _ (rounding : ℕ) (m : List ℕ) where

@@ -14,7 +14,7 @@ use Rattle.cutter.specs.Limits.{sideMost, heightMost}
 use Rattle.cutter.specs.Offset.{squaredLength, offsetOf}
 use Rattle.cutter.specs.Map.{Inner, widthOf, depthOf, stepOf, radiusOf, heightAt, dxAt, dyAt}
 use Rattle.cutter.specs.Centre.{Point, Centre, coordinate, centreOf, pointAt, recordBytes}
-use Rattle.cutter.specs.List.{countOf, columnOf, rowOf, innerPoint, centreAt}
+use Rattle.cutter.specs.List.{countOf, columnOf, rowOf, innerPoint, centreAt, recordAt}
 use Rattle.cutter.specs.Accepted.{Steps, Accepted}
 use Rattle.cutter.proofs.Offsets.{offset-most}
 use Rattle.cutter.proofs.Places.{inside, inner-at}
@@ -103,6 +103,10 @@ module _ (step radius : ℕ) (p : Point) (h : InRange step radius p) where
 pub centre-at : (mode : Mode) (m : List ℕ) (n : ℕ) → centreAt mode m n ≡ centreOf mode (stepOf m) (radiusOf m) (innerPoint m n)
 unfolding centreAt
 centre-at mode m n = refl
+
+pub record-at : (mode : Mode) (m : List ℕ) (n : ℕ) → recordAt mode m n ≡ recordBytes (centreOf mode (stepOf m) (radiusOf m) (innerPoint m n))
+unfolding recordAt centreAt
+record-at mode m n = refl
 
 module _ (m : List ℕ) {room : ℕ} (a : Accepted m room) where
   -- heights of the map are small, and their differences

@@ -1,2 +1,2 @@
-pub mod Rows
+pub mod RowRecords
 pub mod Whole

@@ -1,19 +1,18 @@
 -- `listing::put_points` meets its contract: after some turns the records of so many rows are put. Assumes nothing.
 use Prim.Native.Nat.{_-_}
 use borrow.Author.Needs.{needs}
-use Rattle.listing.proofs.Rows.{rows-more, rows-put}
-use Rattle.listing.specs.Rows.{rowBytes}
-use Rattle.kinds.specs.Rounding.{modeOf}
+use Rattle.listing.proofs.RowRecords.{rows-more, rows-put}
+use Rattle.listing.specs.Row.{rowBytes}
 use Rattle.words.proofs.Runs.{Written, written-none}
 use Rattle.listing.proofs.put_points.Statement.{statement}
 use Rattle.listing.proofs.put_points.Tie as tie
 
 abbrev Inv-loop : tie.InvT-loop
-Inv-loop rounding map out₀ trailer rows row₀ out row =
-    Written (rowBytes (modeOf (rounding .0)) map (trailer .width - 2)) 0 (trailer .depth - 2) out₀ out row
+Inv-loop mode map out₀ trailer rows row₀ out row =
+    Written (rowBytes mode map (trailer .width - 2)) 0 (trailer .depth - 2) out₀ out row
 
 abbrev μ-loop : tie.MeasureT-loop
-μ-loop rounding map out₀ trailer rows row₀ out row = trailer .depth - 2 - row
+μ-loop mode map out₀ trailer rows row₀ out row = trailer .depth - 2 - row
 
 sub-rows : tie.Need-sub-rows Inv-loop μ-loop
 sub-rows c = search needs

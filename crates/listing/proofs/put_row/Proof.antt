@@ -1,19 +1,18 @@
 -- `listing::put_row` meets its contract: after n turns the row's first n records are put. Assumes nothing.
 use Prim.Native.Nat.{_-_, _*_}
 use borrow.Author.Needs.{needs}
-use Rattle.listing.proofs.Rows.{inner-of, row-fits, place-fits, points-more, point-room, row-put}
-use Rattle.listing.specs.Rows.{rowRecord}
-use Rattle.kinds.specs.Rounding.{modeOf}
+use Rattle.listing.proofs.RowRecords.{inner-of, row-fits, place-fits, points-more, point-room, row-put}
+use Rattle.listing.specs.Row.{rowRecord}
 use Rattle.words.proofs.Runs.{Written, written-none}
 use Rattle.listing.proofs.put_row.Statement.{statement}
 use Rattle.listing.proofs.put_row.Tie as tie
 
 abbrev Inv-loop : tie.InvT-loop
-Inv-loop rounding map out₀ trailer row count first n₀ out n =
-    Written (rowRecord (modeOf (rounding .0)) map (trailer .width - 2) row) (row * (12 * (trailer .width - 2))) (trailer .width - 2) out₀ out n
+Inv-loop mode map out₀ trailer row count first n₀ out n =
+    Written (rowRecord mode map (trailer .width - 2) row) (row * (12 * (trailer .width - 2))) (trailer .width - 2) out₀ out n
 
 abbrev μ-loop : tie.MeasureT-loop
-μ-loop rounding map out₀ trailer row count first n₀ out n = trailer .width - 2 - n
+μ-loop mode map out₀ trailer row count first n₀ out n = trailer .width - 2 - n
 
 sub-count : tie.Need-sub-count Inv-loop μ-loop
 sub-count c = search needs

@@ -12,12 +12,13 @@ use Rattle.words.specs.Splice.{splice}
 use Rattle.words.specs.Joined.{joined}
 use Rattle.words.proofs.Runs.{Written, written-more, written-all, room-left, length-joined, joined-rows}
 use Rattle.cutter.specs.Centre.{centreOf, pointAt, recordBytes}
-use Rattle.cutter.specs.List.{centreAt, recordAt}
-use Rattle.cutter.specs.Asked.{trailerOf, Sizes, Ready}
-use Rattle.cutter.specs.Map.{Inner}
+use Rattle.cutter.specs.List.{countOf, recordAt}
+use Rattle.cutter.specs.Accepted.{Sizes, Ready}
+use Rattle.cutter.specs.Map.{Inner, trailerOf}
 use Rattle.cutter.proofs.Lengths.{length-record}
-use Rattle.listing.specs.Rows.{rowRecord, rowBytes}
-use Rattle.cutter.specs.declared.trailer.Trailer.{Trailer}
+use Rattle.cutter.proofs.Points.{record-at}
+use Rattle.listing.specs.Row.{rowRecord, rowBytes}
+use Rattle.trailer.specs.declared.Fields.{Fields}
 
 -- ---- the inner points of a row
 
@@ -48,9 +49,9 @@ unfolding rowBytes
 length-row mode m k row = length-joined (rowRecord mode m k row) 12 (length-row-record mode m k row) k ∙ omega arith
 
 -- the record that is put is the point's
-record-is : (mode : Mode) (m : List ℕ) (t : Trailer) (n row : ℕ) → t ≡ trailerOf m → n < t .width - 2
+record-is : (mode : Mode) (m : List ℕ) (t : Fields) (n row : ℕ) → t ≡ trailerOf m → n < t .width - 2
     → recordBytes (centreOf mode (t .step) (t .radius) (pointAt m (t .width) (n + 1) (row + 1))) ≡ rowRecord mode m (t .width - 2) row n
-unfolding recordAt centreAt trailerOf rowRecord
+unfolding rowRecord
 record-is mode m t n row e h =
     let k = t .width - 2 in
     let i : row * k + n ≡ n + row * k = omega arith in
@@ -58,7 +59,7 @@ record-is mode m t n row e h =
     let c : (row * k + n) % k ≡ n = ap (λ (x : ℕ). x % k) i ∙ add-mul-mod-self-right n row k ∙ mod-eq-of-lt h in
     let q : (row * k + n) / k ≡ row =
     ap (λ (x : ℕ). x / k) i ∙ add-mul-div-right n row some ∙ ap (λ (x : ℕ). x + row) (div-eq-of-lt h) ∙ zero-add row in
-    cc
+    cc (record-at mode m (row * k + n))
 
 -- the bytes of a row are within those of all rows
 row-room : (k rows row n : ℕ) → row < rows → 12 * (k * rows) ≤ n → row * (12 * k) + k * 12 ≤ n
@@ -67,8 +68,8 @@ row-room k rows row n h r =
     let f : row * (12 * k) + 12 * k ≤ n = room-left (12 * k) row rows n h (omega arith) in
     omega arith
 
-module _ (mode : Mode) (m : List ℕ) (t : Trailer) (row : ℕ) (l₀ : List ℕ) where
-  pub points-more : (l l₁ : List ℕ) (n : ℕ) → 12 * ((t .width - 2) * (t .depth - 2)) ≤ length l₀ → row < t .depth - 2 → Ready m t
+module _ (mode : Mode) (m : List ℕ) (t : Fields) (row : ℕ) (l₀ : List ℕ) where
+  pub points-more : (l l₁ : List ℕ) (n : ℕ) → 12 * countOf (t .width) (t .depth) ≤ length l₀ → row < t .depth - 2 → Ready m t
       → Written (rowRecord mode m (t .width - 2) row) (row * (12 * (t .width - 2))) (t .width - 2) l₀ l n → n < t .width - 2
       → l₁ ≡ splice (row * (12 * (t .width - 2)) + n * 12) (recordBytes (centreOf mode (t .step) (t .radius) (pointAt m (t .width) (n + 1) (row + 1)))) l
       → length l₁ ≡ length l → Written (rowRecord mode m (t .width - 2) row) (row * (12 * (t .width - 2))) (t .width - 2) l₀ l₁ (n + 1)
@@ -79,7 +80,7 @@ module _ (mode : Mode) (m : List ℕ) (t : Trailer) (row : ℕ) (l₀ : List ℕ
       (e ∙ ap (λ (b : List ℕ). splice (at + n * 12) b l) (record-is mode m t n row (a .is) more))
       long
 
-  pub point-room : (l : List ℕ) (n : ℕ) → 12 * ((t .width - 2) * (t .depth - 2)) ≤ length l₀ → row < t .depth - 2
+  pub point-room : (l : List ℕ) (n : ℕ) → 12 * countOf (t .width) (t .depth) ≤ length l₀ → row < t .depth - 2
       → Written (rowRecord mode m (t .width - 2) row) (row * (12 * (t .width - 2))) (t .width - 2) l₀ l n → n < t .width - 2
       → row * (12 * (t .width - 2)) + n * 12 + 12 ≤ length l
   point-room l n h r v more = omega (arith, v .long, row-room (t .width - 2) (t .depth - 2) row (length l₀) r h)
