@@ -3,7 +3,7 @@ use mathlib.Core.Path.{_≡_}
 use Prim.Native.Nat.{ℕ, _+_, _*_, _-_, _%_, _^_, _≤_, _<_}
 use native.Mathlib.Nat.{mul-pos}
 use native.Mathlib.Omega.{arith}
-use mathlib.Core.Bool.{Bool, not}
+use mathlib.Core.Bool.{not}
 use mathlib.Core.Logic.{by-cases}
 use native.Mathlib.Decide.{decLt}
 use lib.Dec.{eqb}
@@ -15,19 +15,17 @@ use Rattle.significand.specs.Steps.{rawOf}
 use Rattle.significand.specs.Distance.{Near, boundOf}
 use Rattle.significand.proofs.Accepted.{raw-near}
 use Rattle.ieee.specs.Format.{binary32, magnitudeOf}
-use Rattle.ieee.specs.Guarded.{Guarded, Below}
-use Rattle.ieee.proofs.Guarded.{guarded-below}
 use Rattle.pattern.specs.Parts.{patternOf}
 use Rattle.pattern.specs.Operand.{Scaling}
 use Rattle.floors.specs.Floor.{targetOf, Reached}
 use Rattle.rounding.specs.Neighbour.{neighbourOf}
 use Rattle.binary32.specs.Below.{BelowResult}
-use Rattle.binary32.specs.Scale.{scaleOf, parityOf}
 use Rattle.pattern.specs.declared.operand.Scaled.{Scaled}
 use Rattle.floors.specs.declared.Partial.{Partial}
 use Rattle.rounding.specs.declared.neighbour.Neighbour.{Neighbour}
 use Rattle.floors.proofs.Reaching.{quotient-small}
-use Rattle.binary32.proofs.Scales.{guarded}
+use Rattle.rounding.proofs.Below.{neighbour-below}
+use Rattle.binary32.proofs.Scales.{scaleOf, parityOf, guarded}
 
 -- the raw answers are near
 pub reciprocal-near : (y g : ℕ) → Significand k32 t32 y → g ≡ rawOf k32 t32 Reciprocal y 0 → Near Reciprocal k32 t32 y 0 (boundOf Reciprocal) g
@@ -57,12 +55,6 @@ scaled-pos : (x : ℕ) (s : Scaled) → Scaling x s → 0 < x
 scaled-pos x s h =
     by-cases (decLt 0 x) (λ l. l)
     (λ l. absurd (omega (arith, h .is, mul-pos {m = s .significand} {n = 2 ^ s .exponent} (omega (arith, h .significand)) (pow-pos (s .exponent)))))
-
--- the floor with its guard bit gives the neighbour
-neighbour-below : (op : Op) (x q k : ℕ) (more : Bool) (n : Neighbour) → 0 < x → Guarded binary32 op x q more k → n ≡ neighbourOf q more k
-    → Below binary32 op x (n .pattern) (n .half) (n .more) (n .beyond)
-unfolding neighbourOf
-neighbour-below op x q k more n pos g e = rw e (guarded-below binary32 op x q more k pos g (omega arith))
 
 -- the result of an operand that is scaled
 module _ (e x : ℕ) (s : Scaled) (h : Scaling (magnitudeOf binary32 (patternOf e x)) s) (r : Partial) (n : Neighbour) where

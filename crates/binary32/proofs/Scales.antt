@@ -2,7 +2,7 @@
 use mathlib.Core.Path.{_≡_, refl, sym, ap, subst, _∙_}
 use mathlib.Core.Bool.{not}
 use mathlib.Core.Logic.{by-cases}
-use Prim.Native.Nat.{ℕ, zero, suc, _+_, _*_, _-_, _^_, _≤_, _<_}
+use Prim.Native.Nat.{ℕ, zero, suc, _+_, _*_, _-_, _/_, _%_, _^_, _≤_, _<_}
 use native.Mathlib.Nat.{le-of-mul-le-mul-left, lt-of-mul-lt-mul-left, eq-of-mul-eq-mul-left, mul-le-mul-left, mul-lt-mul-of-pos-left, lt-of-lt-of-le}
 use native.Mathlib.Decide.{decLt}
 use native.Mathlib.Omega.{arith}
@@ -19,8 +19,20 @@ use Rattle.ieee.proofs.Neighbours.{side-rising}
 use Rattle.floors.specs.Floor.{targetOf, Reached}
 use Rattle.floors.specs.declared.Partial.{Partial}
 use Rattle.floors.proofs.Reaching.{quotient-small}
-use Rattle.binary32.specs.Scale.{scaleOf, parityOf}
 use Rattle.significand.specs.Width.{k32, t32, Significand}
+
+-- The operand is X = y / 2^23 × 2^(j − 149), y its significand, and a floor q at the scale k stands for q × 2^(k − 3) units of 2^-149.
+-- 1 / X is 2^48 / y × 2^(273 − j) units; √X is √(y × 2^(25 + p)) × 2^((j + 101 − p) / 2) units; 1 / √X is √(2^(73 − p) / y) × 2^((397 − j + p) / 2)
+-- units: the parity p makes the exponent whole, and k is 3 more
+abbrev pub scaleOf : Op → ℕ → ℕ
+scaleOf Reciprocal j = 276 - j
+scaleOf Root j = (j + 107) / 2
+scaleOf InverseRoot j = (403 - j + 1) / 2
+
+abbrev pub parityOf : Op → ℕ → ℕ
+parityOf Reciprocal j = 0
+parityOf Root j = (j + 107) % 2
+parityOf InverseRoot j = (403 - j) % 2
 
 -- two orders that differ by positive factors
 module _ (a b : ℕ) {m n m′ n′ : ℕ} (pos-a : 0 < a) (pos-b : 0 < b) (em : a * m ≡ b * m′) (en : a * n ≡ b * n′) where

@@ -6,37 +6,19 @@ use Prim.Native.Nat.{ℕ, suc, _+_, _*_, _-_, _/_, _%_, _^_, _≤_, _<_, min}
 use native.Mathlib.Nat.{pow-suc, pow-zero, one-le-pow, le-trans, le-of-lt, lt-of-lt-of-le, mul-le-mul-right, mul-lt-mul-of-pos-right, le-of-mul-le-mul-left, lt-of-mul-lt-mul-left, eq-of-mul-eq-mul-left, mul-le-mul-left, lt-div-mul-add, div-mul-le-self, div-one}
 use native.Mathlib.Decide.{decLt}
 use native.Mathlib.Omega.{arith}
-use borrow.Author.Tests.{le-leb, lt-leb, lt-ltb, le-ltb, eq-eqb, ne-eqb, eqb-true, eqb-false, not-true, not-false}
+use borrow.Author.Tests.{le-leb, lt-leb, eq-eqb, ne-eqb, eqb-true, eqb-false, not-true, not-false}
 use lib.Dec.{eqb}
 use lib.Pow.{pow-pos, shr-le}
 use Rattle.kinds.specs.declared.Op.{Op}
 use Rattle.kinds.specs.declared.Op.the-variants.{Reciprocal, Root, InverseRoot}
-use Rattle.kinds.specs.Rounding.{exact, below, half, above, placeBy}
+use Rattle.kinds.specs.Rounding.{above, placeBy}
 use Rattle.kinds.specs.Guard.{placeOf}
+use Rattle.kinds.proofs.Places.{place-exact, place-above, place-half, place-below}
 use Rattle.numbers.proofs.Powers.{power-of-four}
 use Rattle.ieee.specs.Format.{Format, unitOf, infinity, magnitudeOf}
 use Rattle.ieee.specs.Rounded.{side, limit, twice, fits, lowerOf, placeAt}
 use Rattle.ieee.specs.Guarded.{Guarded, kept, floorPattern, guardBit, stickyBit, isBeyond, Below}
 use Rattle.ieee.proofs.Neighbours.{magnitude-at, rising, rising≤, side-rising, side-rising<, lower-is}
-
--- the place from the order of its four numbers
-module _ (low limit middle doubled : ℕ) where
-  place-exact : low ≡ limit → placeBy low limit middle doubled ≡ exact
-  unfolding placeBy
-  place-exact e = simp (eq-eqb low limit e)
-
-  place-above : low < limit → middle < doubled → placeBy low limit middle doubled ≡ above
-  unfolding placeBy
-  place-above l h = simp (ne-eqb low limit (λ e. omega arith), lt-ltb middle doubled h)
-
-  place-half : low < limit → middle ≡ doubled → placeBy low limit middle doubled ≡ half
-  unfolding placeBy
-  place-half l e = simp (ne-eqb low limit (λ p. omega arith), le-ltb middle doubled (omega arith), eq-eqb middle doubled e)
-
-  place-below : low < limit → doubled < middle → placeBy low limit middle doubled ≡ below
-  unfolding placeBy
-  place-below l h =
-      simp (ne-eqb low limit (λ p. omega arith), le-ltb middle doubled (omega arith), ne-eqb middle doubled (λ p. omega arith))
 
 -- a power of two times the number takes the side as often as the limit is taken
 lifted : (op : Op) (x w a b : ℕ) → twice op ^ w * side op x (a * b) ≡ side op x (a * 2 ^ w * b)

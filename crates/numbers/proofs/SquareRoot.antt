@@ -1,13 +1,15 @@
 -- The greatest number whose square, times a, is at most c: how near it is to √(c / a). Assumes nothing.
 use mathlib.Core.Path.{_≡_}
+use mathlib.Core.Bool.{Bool, true, false, not, _&&_}
 use mathlib.Core.Logic.{by-cases}
 use Prim.Native.Nat.{ℕ, zero, suc, _+_, _*_, _-_, _^_, _≤_, _<_}
 use native.Mathlib.Nat.{mul-le-mul, mul-le-mul-right}
 use native.Mathlib.Decide.{decLt}
 use native.Mathlib.Omega.{arith}
-use lib.Dec.{leb→le, le→leb}
+use mir.Facts.{and-yes}
+use lib.Dec.{T, ltb, leb→le, le→leb, ltb→lt}
 use Rattle.numbers.specs.Greatest.{greatest}
-use Rattle.numbers.proofs.Greatest.{Found, greatest-found, squareFits}
+use Rattle.numbers.proofs.Greatest.{Found, greatest-found, greatest-is, squareFits, square-antitone}
 
 -- the square of g, times a, is at most c, and that of the next number is not
 pub record SquareRoot (a c g : ℕ) : Type 0 where
@@ -34,3 +36,17 @@ before-square a c zero p q h = omega arith
 before-square a c (suc g) p q h =
     let e : suc g - 1 ≡ g = omega arith in
     rw e (omega arith)
+
+-- the test that g is that number, as a table computes it
+abbrev pub squareTight : ℕ → ℕ → ℕ → ℕ → Bool
+squareTight n a c g = squareFits a c g && not (squareFits a c (suc g)) && ltb g (2 ^ n)
+
+pub square-tight : (n a c g : ℕ) → T (squareTight n a c g) → greatest n (squareFits a c) ≡ g
+square-tight n a c g t =
+    let outer = and-yes (squareFits a c g && not (squareFits a c (suc g))) (ltb g (2 ^ n)) t in
+    let inner = and-yes (squareFits a c g) (not (squareFits a c (suc g))) (outer .0) in
+    greatest-is n (squareFits a c) (square-antitone a c) g (inner .0) (never (squareFits a c (suc g)) (inner .1)) (ltb→lt g (2 ^ n) (outer .1))
+  where
+    never : (b : Bool) → T (not b) → T b → ⊥
+    never true p q = absurd p
+    never false p q = absurd q

@@ -1,5 +1,5 @@
 -- The product of step 5 and the raw answer that it is. Assumes nothing.
-use mathlib.Core.Path.{_≡_, sym, _∙_}
+use mathlib.Core.Path.{_≡_, sym}
 use Prim.Native.Nat.{ℕ, _*_, _/_, _^_, _<_}
 use native.Mathlib.Nat.{mul-le-mul}
 use native.Mathlib.Omega.{arith}
@@ -7,7 +7,7 @@ use Rattle.kinds.specs.declared.Op.{Op}
 use Rattle.kinds.specs.declared.Op.the-variants.{Reciprocal, Root, InverseRoot}
 use Rattle.significand.specs.Width.{k32, t32, Operand}
 use Rattle.significand.specs.Steps.{factorOf, seriesOf, multiplierOf, rawOf}
-use Rattle.significand.proofs.Answer.{reciprocal-multiplier, answer-is}
+use Rattle.significand.proofs.Numerals.{reciprocal-multiplier, answer-is}
 use Rattle.series.specs.declared.Reduction.{Reduction}
 use Rattle.series.specs.Parts.{Reduced}
 

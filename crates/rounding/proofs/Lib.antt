@@ -1,2 +1,3 @@
 pub mod Next
 pub mod Shifts
+pub mod Below

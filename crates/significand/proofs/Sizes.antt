@@ -1,23 +1,19 @@
 -- The sizes of R, a and M at k = 7 and t = 3, by which all that the steps work out fits 64 bits. Assumes nothing.
-use mathlib.Core.Path.{_≡_, refl}
+use mathlib.Core.Path.{_≡_}
 use Prim.Native.Nat.{ℕ, _+_, _*_, _/_, _^_, _≤_, _<_}
 use native.Mathlib.Omega.{arith}
 use Rattle.kinds.specs.declared.Op.{Op}
 use Rattle.significand.specs.Width.{k32, t32, Significand}
-use Rattle.significand.specs.Steps.{indexOf, factorOf, reducedOf, multiplierOf}
+use Rattle.significand.specs.Steps.{factorOf, reducedOf, multiplierOf}
 use Rattle.significand.proofs.General.{multiplier-most}
 use Rattle.significand.proofs.Reduction.{least, most, reduced-small as reduced-below}
 use Rattle.significand.proofs.Multiplier.{multiplies}
+use Rattle.significand.proofs.Numerals.{index-is}
 
 -- M is at most 2^(4k + 1)
 multiplier-upto : (k r p : ℕ) → 7 ≤ k → p ≤ 1 → 2 ^ k ≤ r → r ≤ 2 ^ (k + 1) → (op : Op) → multiplierOf k op r p ≤ 2 ^ (4 * k + 1)
 multiplier-upto k r p h e least most op =
     multiplier-most k r p (multiplierOf k op r p) h e least most op (multiplies k r p e least most op)
-
--- the index, by the divisor that code has
-pub index-is : (y : ℕ) → indexOf k32 t32 y ≡ y / 65536
-unfolding indexOf
-index-is y = refl
 
 module _ (y : ℕ) (Y : Significand k32 t32 y) where
   factor-least : 128 ≤ factorOf k32 (y / 65536)

@@ -1,14 +1,14 @@
 -- A match whose keys count up and whose arms are numbers is a table: its rule is proved at all keys by one computed test. The numbers are
 -- read from the function's own code. Assumes nothing.
-use mathlib.Core.Path.{_≡_, sym, ap, _∙_}
-use mathlib.Core.Bool.{true}
+use mathlib.Core.Path.{_≡_, sym, subst}
+use mathlib.Core.Bool.{Bool, true}
 use mathlib.Core.List.{List, [], _∷_}
 use Prim.Native.Nat.{ℕ, suc, _+_, _≤_, _<_}
 use native.Mathlib.Omega.{arith}
 use mir.Facts.{and-yes}
 use mir.Syntax.{Body, Arms, Rv, Opd, arm, default, noDefault, skip, seq, assign, block, loop, cond, switch, exit, return, call}
 use mir.Syntax.{rvOpd, op2, op1, addrOf, aggregate, repeat, int, intBig, intNeg, copy, float, opdTrue, opdFalse, opdUnit, ptrConst}
-use lib.Dec.{T, eqb, eqb→eq}
+use lib.Dec.{T}
 use lib.ListN.{length}
 use types.Run.{OneOf}
 use Rattle.tables.specs.Table.{every}
@@ -69,22 +69,22 @@ Asked Q i k [] N = Unit {0}
 Asked Q i k (v ∷ []) N = N → Q v
 Asked Q i k (v ∷ w ∷ vs) N = (OneOf (k ∷ []) i → Q v) × Asked Q i (suc k) (w ∷ vs) (N × (OneOf (k ∷ []) i → ⊥))
 
-module _ (Q : ℕ → Type 0) (rule : ℕ → ℕ) (i : ℕ) (q : (v : ℕ) → v ≡ rule i → Q v) where
-  pub answered : (k : ℕ) (vs : List ℕ) (N : Type 0) → (N → k ≤ i) → i < k + length vs → T (every (λ (j v : ℕ). eqb v (rule j)) k vs)
-      → Asked Q i k vs N
+module _ (Q : ℕ → Type 0) (test : ℕ → ℕ → Bool) (i : ℕ) (q : (v : ℕ) → T (test i v) → Q v) where
+  pub answered : (k : ℕ) (vs : List ℕ) (N : Type 0) → (N → k ≤ i) → i < k + length vs → T (every test k vs) → Asked Q i k vs N
   answered k [] N low high t = tt
   answered k (v ∷ []) N low high t =
-      λ n. let l = low n in let e : k ≡ i = omega arith in q v (eqb→eq v (rule k) (and-yes (eqb v (rule k)) true t .0) ∙ ap rule e)
+      λ n. let l = low n in let e : k ≡ i = omega arith in q v (subst (λ (j : ℕ). T (test j v)) e (and-yes (test k v) true t .0))
   answered k (v ∷ w ∷ vs) N low high t =
-      let b = and-yes (eqb v (rule k)) (every (λ (j v : ℕ). eqb v (rule j)) (suc k) (w ∷ vs)) t in (
-        λ e. q v (eqb→eq v (rule k) (b .0) ∙ ap rule (sym e)),
+      let b = and-yes (test k v) (every test (suc k) (w ∷ vs)) t in (
+        λ e. q v (subst (λ (j : ℕ). T (test j v)) (sym e) (b .0)),
         answered (suc k) (w ∷ vs) (N × (OneOf (k ∷ []) i → ⊥))
             (λ n. let l = low (n .0) in let d : i ≡ k → ⊥ = n .1 in omega arith) (omega arith) (b .1),
       )
 
--- what the match of a table function asks: its contract r ≡ n, where n is the rule at i, the keys counting up from 128
-pub looked-up : (rule : ℕ → ℕ) (i n : ℕ) → rule i ≡ n → (vs : List ℕ) → 128 ≤ i → i < 128 + length vs
-    → T (every (λ (j v : ℕ). eqb v (rule j)) 128 vs)
+-- what the match of a table function asks: its contract r ≡ n, where n is the only number that passes the test at i, the keys counting
+-- up from 128
+pub looked-up : (test : ℕ → ℕ → Bool) (i n : ℕ) → ((v : ℕ) → T (test i v) → v ≡ n) → (vs : List ℕ) → 128 ≤ i → i < 128 + length vs
+    → T (every test 128 vs)
     → Asked (λ (v : ℕ). (Unit {0} × Unit {0}) × (v ≡ n)) i 128 vs (Unit {0})
-looked-up rule i n is vs low high t =
-    answered (λ (v : ℕ). (Unit {0} × Unit {0}) × (v ≡ n)) rule i (λ v e. ((tt, tt), e ∙ is)) 128 vs (Unit {0}) (λ l. low) high t
+looked-up test i n is vs low high t =
+    answered (λ (v : ℕ). (Unit {0} × Unit {0}) × (v ≡ n)) test i (λ v p. ((tt, tt), is v p)) 128 vs (Unit {0}) (λ l. low) high t

@@ -1,6 +1,7 @@
 -- `binary32::answer` meets its contract: a special operand has its answer, and any other the rounded result. Assumes nothing.
 use borrow.Author.Needs.{needs}
-use Rattle.binary32.proofs.Answers.{ordinary-is, answer-special, answer-finite}
+use Rattle.special.proofs.Parted.{ordinary-is}
+use Rattle.binary32.proofs.Answers.{answer-special, answer-finite}
 use Rattle.binary32.proofs.answer.Statement.{statement}
 use Rattle.binary32.proofs.answer.Tie as tie
 

@@ -1,0 +1,79 @@
+-- The numbered steps in the numbers of k = 7 and t = 3, as code and tables have them. Assumes nothing.
+use mathlib.Core.Path.{_≡_, refl, sym}
+use mathlib.Core.Bool.{Bool}
+use Prim.Native.Nat.{ℕ, _+_, _-_, _*_, _/_, _^_}
+use lib.Dec.{T, eqb, leb, eqb→eq}
+use Rattle.kinds.specs.declared.Op.{Op}
+use Rattle.kinds.specs.declared.Op.the-variants.{Reciprocal, Root, InverseRoot}
+use Rattle.numbers.proofs.SquareRoot.{squareTight, square-tight}
+use Rattle.significand.specs.Width.{k32, t32}
+use Rattle.significand.specs.Steps.{plus, less, apart, digit2, digit3, carryOf, indexOf, factorOf, signOf, reducedOf, sumOf, seriesOf, multiplierOf, rawOf}
+
+-- 1. the index and R, whose table's test is over i and the entry
+pub index-is : (y : ℕ) → indexOf k32 t32 y ≡ y / 65536
+unfolding indexOf
+index-is y = refl
+
+abbrev pub factorTest : ℕ → ℕ → Bool
+factorTest i w = eqb w (32768 / i)
+
+pub factor-entry : (i w : ℕ) → T (factorTest i w) → w ≡ factorOf k32 i
+unfolding factorOf
+factor-entry i w t = eqb→eq w (32768 / i) t
+
+-- 2. the sign and a of u = y × R
+pub sign-is : (u : ℕ) → leb 2147483648 u ≡ signOf k32 t32 u
+unfolding signOf
+sign-is u = refl
+
+pub reduced-is : (u : ℕ) → apart u 2147483648 / 8 ≡ reducedOf k32 t32 u
+unfolding reducedOf
+reduced-is u = refl
+
+-- 3. the sums, a2 and a3 being digits and h the carry
+module _ (s : Bool) (a : ℕ) where
+  pub reciprocal-sum : sumOf k32 Reciprocal s a
+      ≡ less s (128 * (less s 268435456 a + digit2 k32 a * digit2 k32 a) + 2 * digit2 k32 a * digit3 k32 a) (carryOf k32 (digit2 k32 a) * digit2 k32 a)
+  unfolding sumOf
+  reciprocal-sum = refl
+
+  pub root-sum : sumOf k32 Root s a
+      ≡ plus s (plus s 549755813888 (1024 * a) - 256 * digit2 k32 a * digit2 k32 a - 4 * digit2 k32 a * digit3 k32 a) (carryOf k32 (digit2 k32 a) * digit2 k32 a)
+  unfolding sumOf
+  root-sum = refl
+
+  pub inverse-root-sum : sumOf k32 InverseRoot s a
+      ≡ less s (less s 549755813888 (1024 * a) + 768 * digit2 k32 a * digit2 k32 a + 12 * digit2 k32 a * digit3 k32 a) (5 * carryOf k32 (digit2 k32 a) * digit2 k32 a)
+  unfolding sumOf
+  inverse-root-sum = refl
+
+-- 4. M: for the reciprocal R × 2^20; for the roots a table, whose test is over the parity, i and the entry
+pub reciprocal-multiplier : (r p : ℕ) → multiplierOf k32 Reciprocal r p ≡ r * 1048576
+unfolding multiplierOf
+reciprocal-multiplier r p = refl
+
+abbrev pub rootTest : ℕ → ℕ → ℕ → Bool
+rootTest p i w = squareTight 30 (32768 / i) (2 ^ (64 + p)) w
+
+pub root-entry : (p i w : ℕ) → T (rootTest p i w) → w ≡ multiplierOf k32 Root (factorOf k32 i) p
+unfolding factorOf multiplierOf
+root-entry p i w t = sym (square-tight 30 (32768 / i) (2 ^ (64 + p)) w t)
+
+abbrev pub inverseRootTest : ℕ → ℕ → ℕ → Bool
+inverseRootTest p i w = squareTight 30 (2 ^ (8 + p)) (32768 / i * 2 ^ 56) w
+
+pub inverse-root-entry : (p i w : ℕ) → T (inverseRootTest p i w) → w ≡ multiplierOf k32 InverseRoot (factorOf k32 i) p
+unfolding factorOf multiplierOf
+inverse-root-entry p i w t = sym (square-tight 30 (2 ^ (8 + p)) (32768 / i * 2 ^ 56) w t)
+
+-- 5. M times b of the reduced significand is the answer
+pub answer-is : (op : Op) (y p r a m b g : ℕ) (s : Bool)
+    → r ≡ factorOf k32 (y / 65536)
+    → s ≡ signOf k32 t32 (y * r)
+    → a ≡ reducedOf k32 t32 (y * r)
+    → b ≡ seriesOf k32 op s a
+    → m ≡ multiplierOf k32 op r p
+    → g ≡ m * b / 268435456
+    → g ≡ rawOf k32 t32 op y p
+unfolding rawOf
+answer-is op y p r a m b g s er es ea eb em eg = rw index-is (cc)
