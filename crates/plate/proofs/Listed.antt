@@ -1,27 +1,55 @@
--- The length that the list call reports is a number of 32 bits. Assumes nothing.
+-- The reply of a list call that is refused or accepted, and that a length reported is a number of 32 bits. Assumes nothing.
+use mathlib.Core.Path.{_≡_, sym, ap, _∙_}
 use mathlib.Core.List.{List}
 use mathlib.Core.Logic.{by-cases}
 use Prim.Native.Nat.{ℕ, _^_, _<_}
 use native.Mathlib.Decide.{ℕ-discrete}
 use native.Mathlib.Omega.{arith}
 use lib.ListN.{length}
-use borrow.Author.Tests.{eq-eqb, ne-eqb}
-use Rattle.listing.specs.declared.ListReply.{ListReply}
+use Rattle.kinds.specs.declared.Mode.{Mode}
+use Rattle.kinds.specs.Rounding.{modeOf}
+use Rattle.words.specs.Splice.{splice}
 use Rattle.cutter.specs.Map.{widthOf, depthOf}
-use Rattle.cutter.specs.List.{listLength}
-use Rattle.cutter.specs.Call.{listRefusal, listAnswer}
-use Rattle.cutter.proofs.Questions.{count-most}
-use Rattle.cutter.proofs.Accepted.{accepted-of}
+use Rattle.cutter.specs.List.{listLength, listBytes}
+use Rattle.cutter.specs.Call.{mapRefusal, listRefusal, listAnswer}
+use Rattle.cutter.proofs.Counts.{count-most}
+use Rattle.cutter.proofs.Lengths.{list-length-is}
+use Rattle.cutter.proofs.Accepted.{accepted-of, map-asked, accepted-answer, accepted-buffer, refused-answer, refused-buffer}
+use Rattle.plate.specs.declared.ListReply.{ListReply}
 use Rattle.plate.specs.List.{ListCall}
 
+module _ (rounding : ℕ) (m out : List ℕ) (n : ℕ) (e : n ≡ listRefusal rounding m (length out)) where
+  -- nothing is put
+  pub refused : (n ≡ 0 → ⊥) → ListCall rounding m out (record { refusal = n; length = 0 }) out
+  refused h =
+      let no : listRefusal rounding m (length out) ≡ 0 → ⊥ = λ z. h (e ∙ z) in
+      record { answers = cc (refused-answer rounding m (length out) no); leaves = sym (refused-buffer rounding m out no) }
+
+  -- the list is
+  pub map-accepted : n ≡ 0 → mapRefusal m (length out) ≡ 0
+  map-accepted z = map-asked rounding m (length out) (sym e ∙ z)
+
+  pub answered : (mode : Mode) (k : ℕ) (after : List ℕ) → n ≡ 0 → mode ≡ modeOf rounding → k ≡ listLength m
+      → after ≡ splice 0 (listBytes mode m) out → ListCall rounding m out (record { refusal = n; length = k }) after
+  answered mode k after z p l f =
+      let yes : listRefusal rounding m (length out) ≡ 0 = sym e ∙ z in
+      record {
+        answers = cc (accepted-answer rounding m (length out) yes);
+        leaves = f ∙ ap (λ (x : Mode). splice 0 (listBytes x m) out) p ∙ sym (accepted-buffer rounding m out yes);
+      }
+
 -- a list is short
-pub length-small : (rounding : ℕ) (m : List ℕ) (room : ℕ) → listAnswer rounding m room < 2 ^ 32
-unfolding listAnswer listLength
+length-small : (rounding : ℕ) (m : List ℕ) (room : ℕ) → listAnswer rounding m room < 2 ^ 32
 length-small rounding m room =
     by-cases (ℕ-discrete (listRefusal rounding m room) 0)
     (λ z.
-    rw (eq-eqb (listRefusal rounding m room) 0 z) (omega (arith, count-most (widthOf m) (depthOf m) (accepted-of rounding m room z .sizes))))
-    (λ h. rw (ne-eqb (listRefusal rounding m room) 0 h) (omega arith))
+    omega (
+      arith,
+      accepted-answer rounding m room z,
+      list-length-is m,
+      count-most (widthOf m) (depthOf m) (accepted-of m room (map-asked rounding m room z) .sizes),
+    ))
+    (λ h. omega (arith, refused-answer rounding m room h))
 
 -- so is what a call reports
 pub reply-small : (rounding : ℕ) (m before after : List ℕ) (r : ListReply) → ListCall rounding m before r after → r .length < 2 ^ 32

@@ -6,12 +6,12 @@ ghost use Rattle.significand.specs.Call.{rawRefusal, rawAnswer};
 ghost use Rattle.ieee.specs.Call.{binary32Refusal, binary32Bits, binary32Status};
 ghost use Rattle.cutter.specs.Call.{listRefusal, listAnswer, bufferAfter};
 ghost use Rattle.plate.specs.Packed.{packed};
+use crate::Operation;
+use crate::Rounding;
 use crate::Status;
 use crate::binary32;
 use crate::list;
 use crate::raw;
-use kinds::Operation;
-use kinds::Rounding;
 
 // The raw call; it has no status, so those bits are 0.
 #[no_mangle]

@@ -1,17 +1,70 @@
 // The plate unit. Every call that is open to users stands in this file and, for callers from C, in c.rt, and nowhere else. None asks
-// anything of its caller: an operand that a call cannot take gets the number of the first question that it fails.
-mod answers;
+// anything of its caller: an operand that a call cannot take gets the number of the first question that it fails. The calls have one
+// shape: the questions first, on numbers as they come; then the work, on an operation and a rounding that are cases.
 mod c;
 
 ghost use mathlib.Core.Path.{_≡_};
+ghost use Rattle.kinds.specs.Flag.{invalid, divisionByZero, overflow, underflow, inexact};
 ghost use Rattle.plate.specs.Status.{raised, cleared};
 ghost use Rattle.plate.specs.Raw.{rawCall};
 ghost use Rattle.plate.specs.Binary32.{binary32Call};
 ghost use Rattle.plate.specs.List.{ListCall};
-pub use kinds::Flag;
-pub use kinds::Operation;
-pub use kinds::Rounding;
-pub use listing::ListReply;
+use kinds::Flags;
+use kinds::Mode;
+use kinds::Op;
+
+// An operation by its number.
+pub struct Operation(pub u8);
+
+impl Operation {
+    pub const RECIPROCAL: Operation = Operation(1);
+
+    pub const ROOT: Operation = Operation(2);
+
+    pub const INVERSE_ROOT: Operation = Operation(3);
+}
+
+// A rounding by its number.
+pub struct Rounding(pub u8);
+
+impl Rounding {
+    pub const NEAREST: Rounding = Rounding(0);
+
+    pub const UP: Rounding = Rounding(1);
+
+    pub const DOWN: Rounding = Rounding(2);
+
+    pub const TOWARD_ZERO: Rounding = Rounding(3);
+}
+
+// A flag, or several, by its bit.
+pub struct Flag(pub u8);
+
+impl Flag {
+    pub const INVALID: Flag = Flag(Flags::INVALID);
+
+    pub const DIVISION_BY_ZERO: Flag = Flag(Flags::DIVISION_BY_ZERO);
+
+    pub const OVERFLOW: Flag = Flag(Flags::OVERFLOW);
+
+    pub const UNDERFLOW: Flag = Flag(Flags::UNDERFLOW);
+
+    pub const INEXACT: Flag = Flag(Flags::INEXACT);
+}
+
+// Each name has the number that the document gives its operation, rounding or flag.
+pub fn operations_named()
+    ensures { λ _. do ⌜ ((← ⟦Operation::RECIPROCAL.0⟧ .entry) ≡ 1) × ((← ⟦Operation::ROOT.0⟧ .entry) ≡ 2) × ((← ⟦Operation::INVERSE_ROOT.0⟧ .entry) ≡ 3) ⌝ }
+{}
+
+pub fn roundings_named()
+    ensures { λ _. do ⌜ ((← ⟦Rounding::NEAREST.0⟧ .entry) ≡ 0) × ((← ⟦Rounding::UP.0⟧ .entry) ≡ 1) × ((← ⟦Rounding::DOWN.0⟧ .entry) ≡ 2) × ((← ⟦Rounding::TOWARD_ZERO.0⟧ .entry) ≡ 3) ⌝ }
+{}
+
+pub fn flags_named()
+    ensures { λ _. do ⌜ ((← ⟦Flag::INVALID.0⟧ .entry) ≡ invalid) × ((← ⟦Flag::DIVISION_BY_ZERO.0⟧ .entry) ≡ divisionByZero) ⌝ }
+    ensures { λ _. do ⌜ ((← ⟦Flag::OVERFLOW.0⟧ .entry) ≡ overflow) × ((← ⟦Flag::UNDERFLOW.0⟧ .entry) ≡ underflow) × ((← ⟦Flag::INEXACT.0⟧ .entry) ≡ inexact) ⌝ }
+{}
 
 // The flags that were raised since the status was last cleared, one bit each.
 pub struct Status {
@@ -53,14 +106,12 @@ pub struct RawReply {
 pub fn raw(operation: Operation, significand: u32, parity: u8) -> RawReply
     ensures { λ r. ⌜ r ≡ rawCall (operation .0) significand parity ⌝ }
 {
-    let refusal = door::raw_refusal(operation.0, significand, parity);
+    let refusal = raw::refusal(operation.0, significand, parity);
     if refusal != 0 {
         return RawReply { refusal, answer: 0 };
     }
-    RawReply {
-        refusal,
-        answer: answers::raw_answer(operation.0, significand, parity),
-    }
+    let answer = raw::answer(Op::of(operation.0), significand, parity);
+    RawReply { refusal, answer }
 }
 
 // What the binary32 call gives back: refusal 0 with the answer's bits and the new status; or the number of a question, with bits 0 and
@@ -80,7 +131,7 @@ pub fn binary32(
 ) -> Binary32Reply
     ensures { λ r. ⌜ r ≡ binary32Call (operation .0) (rounding .0) bits status ⌝ }
 {
-    let refusal = door::binary32_refusal(operation.0, rounding.0);
+    let refusal = binary32::refusal(operation.0, rounding.0);
     if refusal != 0 {
         return Binary32Reply {
             refusal,
@@ -88,7 +139,7 @@ pub fn binary32(
             status,
         };
     }
-    let rounded = binary32::answer(operation, rounding, bits);
+    let rounded = binary32::answer(Op::of(operation.0), Mode::of(rounding.0), bits);
     Binary32Reply {
         refusal,
         bits: rounded.bits,
@@ -96,10 +147,21 @@ pub fn binary32(
     }
 }
 
-// The list call: the cutter's centres over a map, put at the front of the lent buffer; the bytes behind the list are kept. It gives back
-// refusal 0 with the length of the list; or the number of a question, with length 0, and the buffer holds what it held.
+// What the list call gives back: refusal 0 with the length of the list; or the number of a question, with length 0.
+pub struct ListReply {
+    pub refusal: u8,
+    pub length: usize,
+}
+
+// The list call: the cutter's centres over a map, put at the front of the lent buffer; the bytes behind the list are kept. After a
+// refusal the buffer holds what it held.
 pub fn list(rounding: Rounding, map: &[u8], buffer: &mut [u8]) -> ListReply
     ensures { λ r. ⌜ ListCall (rounding .0) (now (map .entry)) (now (buffer .entry)) r (now (buffer .exit)) ⌝ }
 {
-    listing::list(rounding, map, buffer)
+    let refusal = listing::refusal(rounding.0, map, buffer.len());
+    if refusal != 0 {
+        return ListReply { refusal, length: 0 };
+    }
+    let length = listing::put_list(Mode::of(rounding.0), map, buffer);
+    ListReply { refusal, length }
 }

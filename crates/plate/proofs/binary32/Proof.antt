@@ -4,11 +4,17 @@ use borrow.Author.Needs.{needs}
 use Rattle.plate.proofs.binary32.Statement.{statement}
 use Rattle.plate.proofs.binary32.Tie as tie
 
-binary32-refusal-requires : tie.Need-binary32-refusal-requires
-binary32-refusal-requires c κs = search needs
+refusal-requires : tie.Need-refusal-requires
+refusal-requires c κs = search needs
 
 returns : tie.Need-returns
 returns c = search refused
+
+of-requires : tie.Need-of-requires
+of-requires c κs = search needs
+
+of-requires-2 : tie.Need-of-requires-2
+of-requires-2 c κs = search needs
 
 answer-requires : tie.Need-answer-requires
 answer-requires c κs = search needs
@@ -21,4 +27,12 @@ returns-2 c = search answered
 
 pub binary32-spec : {M : Type 1} → statement M
 binary32-spec =
-    tie.close (tie.spec binary32-refusal-requires returns answer-requires raise-requires returns-2)
+    tie.close
+    (tie.spec
+    refusal-requires
+    returns
+    of-requires
+    of-requires-2
+    answer-requires
+    raise-requires
+    returns-2)

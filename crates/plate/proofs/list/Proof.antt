@@ -1,0 +1,28 @@
+-- `plate::list` meets its contract: after a "no" nothing is put, and else the list. Assumes nothing.
+use Rattle.plate.proofs.Listed.{refused, map-accepted, answered}
+use borrow.Author.Needs.{needs}
+use Rattle.plate.proofs.list.Statement.{statement}
+use Rattle.plate.proofs.list.Tie as tie
+
+refusal-requires : tie.Need-refusal-requires
+refusal-requires c κs = search needs
+
+returns : tie.Need-returns
+returns c = search refused
+
+of-requires : tie.Need-of-requires
+of-requires c κs = search needs
+
+put-list-requires : tie.Need-put-list-requires
+put-list-requires c κs = search map-accepted
+
+same-length : tie.Need-same-length
+same-length c = search needs
+
+returns-2 : tie.Need-returns-2
+returns-2 c = search answered
+
+pub list-spec : {M : Type 1} → statement M
+list-spec =
+    tie.close
+    (tie.spec refusal-requires returns of-requires put-list-requires same-length returns-2)
