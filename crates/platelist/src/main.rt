@@ -1,12 +1,14 @@
 // Reads a map from standard input and prints its list, rounding nearest.
-ghost use Prim.Native.Nat.{_+_, _-_, _*_, _≤_, _<_};
+ghost use Prim.Native.Nat.{_+_, _*_, _≤_, _<_};
 ghost use lib.ListN.{length};
-ghost use Rattle.cutter.specs.Asked.{Sizes};
-use cutter::trailer::Trailer;
-use cutter::trailer::read_trailer;
+ghost use Rattle.cutter.specs.List.{countOf};
+ghost use Rattle.cutter.specs.Accepted.{Sizes};
 use libc::STDIN_FILENO;
 use libc::STDOUT_FILENO;
 use plate::Rounding;
+use trailer::Fields;
+use trailer::Kind;
+use trailer::read_last;
 use words::word_at;
 
 fn main() {
@@ -33,13 +35,13 @@ fn show_map(map: &[u8], out: &mut [u8]) {
         refused(reply.refusal as u64);
         return;
     }
-    show_list(read_trailer(map), out);
+    show_list(read_last(map, Kind::Plt1), out);
 }
 
 // The sizes, and then a line for each record at the front of `out`.
-fn show_list(trailer: Trailer, out: &[u8])
+fn show_list(trailer: Fields, out: &[u8])
     requires { ⌜ Sizes (trailer .width) (trailer .depth) ⌝ }
-    requires { ⌜ 12 * ((trailer .width - 2) * (trailer .depth - 2)) ≤ length (now out) ⌝ }
+    requires { ⌜ 12 * countOf (trailer .width) (trailer .depth) ≤ length (now out) ⌝ }
 {
     show(trailer.width as u64, b" ");
     show(trailer.depth as u64, b" ");

@@ -6,18 +6,15 @@ use Prim.Native.Nat.{ℕ, _<_}
 use lib.Dec.{T}
 use lib.ListN.{length}
 use Rattle.kinds.specs.Operation.{isOperation}
-use Rattle.kinds.specs.Rounding.{isRounding}
-use Rattle.kinds.specs.Question.{ask}
-use Rattle.kinds.proofs.Questions.{yes}
 use Rattle.ieee.specs.Format.{binary32, infinity}
-use Rattle.ieee.specs.Call.{binary32Refusal}
+use Rattle.ieee.proofs.Accepted.{known-both}
 use Rattle.ieee.proofs.Bracket.{call-bracket}
 use Rattle.cutter.specs.Call.{listRefusal}
-use Rattle.bracket.proofs.Entries.{list-held}
+use Rattle.cutter.proofs.Entries.{list-held}
 use Rattle.bracket.proofs.Bracket.{list-bracket}
 use Rattle.plate.specs.declared.Status.{Status}
 use Rattle.plate.specs.declared.Binary32Reply.{Binary32Reply}
-use Rattle.listing.specs.declared.ListReply.{ListReply}
+use Rattle.plate.specs.declared.ListReply.{ListReply}
 use Rattle.plate.specs.Binary32.{binary32Call}
 use Rattle.plate.specs.List.{ListCall}
 use Rattle.theorems.specs.Bracket.{Binary32Bracket, ListsBracket}
@@ -31,10 +28,9 @@ pub binary32-bracket : (operation operand : ℕ) (a b : Status) (lower upper : B
     → 0 < operand
     → operand < infinity binary32
     → Binary32Bracket operation operand lower upper
-unfolding binary32Refusal
 binary32-bracket operation operand a b lower upper e f r s p l =
     let known : T (isOperation operation) =
-    yes (isOperation operation) 0 (ask (isRounding 2) 2 0) (sym (ap (λ (x : Binary32Reply). x .refusal) e) ∙ r) .0 in
+    known-both operation 2 (sym (ap (λ (x : Binary32Reply). x .refusal) e) ∙ r) .0 in
     let k = call-bracket operation known operand p l in
     rw (e, f) (record { equal = k .equal; next = k .next })
 

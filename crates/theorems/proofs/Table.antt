@@ -4,8 +4,8 @@ use Prim.Native.Nat.{ℕ}
 use lib.Dec.{T, le→leb}
 use Rattle.kinds.specs.Operation.{isOperation, opOf}
 use Rattle.kinds.specs.Rounding.{isRounding, modeOf}
-use Rattle.kinds.specs.Question.{ask}
 use Rattle.significand.specs.Call.{rawRefusal, rawAnswer}
+use Rattle.significand.proofs.Accepted.{unrefused}
 use Rattle.significand.proofs.Rows.{raw-rows}
 use Rattle.ieee.specs.Format.{binary32}
 use Rattle.ieee.specs.Answer.{answer, answerOf}
@@ -25,15 +25,14 @@ gives operation rounding operand bits flags o r e s =
     rw (a, accepted-bits operation rounding operand a, accepted-status operation rounding operand a (s .flags), e)
 
 pub table : Table
-unfolding rawRefusal ask
 table =
     record {
-      raw-1 = raw-gives 1 8388608 0 268435456 refl (raw-rows .one);
-      raw-2 = raw-gives 1 12582912 0 178956970 refl (raw-rows .one-and-half .answer);
+      raw-1 = raw-gives 1 8388608 0 268435456 (unrefused 1 8388608 0 tt tt tt) (raw-rows .one);
+      raw-2 = raw-gives 1 12582912 0 178956970 (unrefused 1 12582912 0 tt tt tt) (raw-rows .one-and-half .answer);
       raw-2-worked = raw-rows .one-and-half;
-      raw-3 = raw-gives 1 16777215 0 134217736 refl (raw-rows .last);
-      raw-4 = raw-gives 2 8388608 1 379625062 refl (raw-rows .root-of-two);
-      raw-5 = raw-gives 3 8388608 1 189812531 refl (raw-rows .inverse-root-of-two);
+      raw-3 = raw-gives 1 16777215 0 134217736 (unrefused 1 16777215 0 tt tt tt) (raw-rows .last);
+      raw-4 = raw-gives 2 8388608 1 379625062 (unrefused 2 8388608 1 tt tt tt) (raw-rows .root-of-two);
+      raw-5 = raw-gives 3 8388608 1 189812531 (unrefused 3 8388608 1 tt tt tt) (raw-rows .inverse-root-of-two);
       third-down = gives 1 2 _ _ _ tt tt (pattern-rows .third .down-is);
       third-up = gives 1 1 _ _ _ tt tt (pattern-rows .third .up-is);
       minus-third-down = gives 1 2 _ _ _ tt tt (pattern-rows .minus-third .down-is);

@@ -12,7 +12,7 @@ use Rattle.cutter.specs.Map.{widthOf, depthOf}
 use Rattle.cutter.specs.List.{countOf}
 use Rattle.cutter.specs.Agree.{ExactMap, entryAt}
 use Rattle.plate.specs.declared.Binary32Reply.{Binary32Reply}
-use Rattle.listing.specs.declared.ListReply.{ListReply}
+use Rattle.plate.specs.declared.ListReply.{ListReply}
 
 -- two answers to one operand: equal exactly where its value agrees, and otherwise the upper pattern is the next above the lower
 pub record Binary32Bracket (operation operand : ℕ) (lower upper : Binary32Reply) : Type 0 where

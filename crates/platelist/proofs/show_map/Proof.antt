@@ -1,6 +1,6 @@
 -- `platelist::show_map` is safe and ends: a reply without a "no" bounds the sizes, and the buffer holds the list. Assumes nothing.
 use borrow.Author.Needs.{needs}
-use Rattle.platelist.proofs.Told.{told-sixteen, told-sizes, told-room}
+use Rattle.platelist.proofs.Told.{told-long, told-sizes, told-room}
 use Rattle.platelist.proofs.show_map.Statement.{statement}
 use Rattle.platelist.proofs.show_map.Tie as tie
 
@@ -19,8 +19,8 @@ same-length c = search needs
 returns : tie.Need-returns
 returns c = search needs
 
-read-trailer-requires : tie.Need-read-trailer-requires
-read-trailer-requires c κs = search told-sixteen
+read-last-requires : tie.Need-read-last-requires
+read-last-requires c κs = search told-long
 
 show-list-requires : tie.Need-show-list-requires
 show-list-requires c κs = (search told-sizes, search told-room)
@@ -40,7 +40,7 @@ show-map-spec =
     refused-requires
     same-length
     returns
-    read-trailer-requires
+    read-last-requires
     show-list-requires
     same-length-2
     returns-2)
