@@ -36,13 +36,7 @@ pub struct Words {
 }
 
 // component × radius over the normal's length, rounded.
-fn offset_of(
-    mode: Mode,
-    component: Signed,
-    radius: u64,
-    squared: u64,
-    inverse: Inverse,
-) -> Signed
+fn offset_of(mode: Mode, component: Signed, radius: u64, squared: u64, inverse: Inverse) -> Signed
     requires { ⌜ ComponentRange (component .magnitude) radius squared × InverseOf squared (inverse .low) (inverse .shift) ⌝ }
     ensures { λ r. ⌜ (r ≡ offsetParts (mode) component radius squared) × (r .magnitude ≤ radius) ⌝ }
 {

@@ -23,7 +23,7 @@ use Rattle.cutter.specs.Limits.{bytesLeast, sideLeast, sideMost, stepMos
 use Rattle.cutter.specs.Map.{trailerOf, distanceOf, widthOf, depthOf, stepOf, radiusOf}
 use Rattle.cutter.specs.List.{countOf, listLength, listBytes}
 use Rattle.cutter.specs.Call.{within, isSized, isStepped, isLong, heightsWithin, hasRoom, mapRefusal, listRefusal, listAnswer, bufferAfter}
-use Rattle.cutter.specs.Accepted.{Sizes, Steps, Heights, Accepted, Ready}
+use Rattle.cutter.specs.Accepted.{Sizes, Steps, Accepted, Ready}
 
 -- ---- "yes" taken apart
 

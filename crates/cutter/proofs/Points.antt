@@ -5,11 +5,11 @@ use Prim.Native.Nat.{ℕ, zero, suc, _+_, _-_, _*_, _≤_, _<_}
 use native.Mathlib.Nat.{mul-le-mul, mul-pos}
 use native.Mathlib.Omega.{arith}
 use lib.Dec.{lit<}
-use lib.IntN.{ℤ, pos, negℤ, natAbs, _+ℤ_, _-ℤ_}
+use lib.IntN.{ℤ, pos, negℤ, natAbs, _+ℤ_}
 use Rattle.kinds.specs.declared.Mode.{Mode}
 use Rattle.words.specs.Word.{wordAt, wordBytes}
 use Rattle.words.specs.Signed.{signed, wordOf}
-use Rattle.words.proofs.Differences.{abs-neg, abs-add, abs-sub}
+use Rattle.words.proofs.Differences.{abs-neg, abs-add}
 use Rattle.cutter.specs.Limits.{sideMost, heightMost}
 use Rattle.cutter.specs.Offset.{squaredLength, offsetOf}
 use Rattle.cutter.specs.Map.{Inner, widthOf, depthOf, stepOf, radiusOf, heightAt, dxAt, dyAt}
@@ -25,8 +25,6 @@ pub record InRange (step radius : ℕ) (p : Point) : Type 0 where
   pub column-to : p .column ≤ sideMost
   pub row-to : p .row ≤ sideMost
   pub height-to : natAbs (p .height) ≤ heightMost
-  pub dx-to : natAbs (p .dx) ≤ 2 * heightMost
-  pub dy-to : natAbs (p .dy) ≤ 2 * heightMost
 
 -- ---- the three coordinates alike
 
@@ -61,10 +59,10 @@ height-is m w c q = refl
 
 pub record-is : (mode : Mode) (step radius : ℕ) (m : List ℕ) (w c q : ℕ)
     → let l = squaredLength (dxAt m w c q) (dyAt m w c q) step in
-      recordBytes (centreOf mode step radius (pointAt m w c q))
-      ≡ wordBytes (wordOf (pos (c * step) +ℤ offsetOf mode (negℤ (dxAt m w c q)) radius l))
-      ++ wordBytes (wordOf (pos (q * step) +ℤ offsetOf mode (negℤ (dyAt m w c q)) radius l))
-      ++ wordBytes (wordOf (heightAt m w c q +ℤ offsetOf mode (pos (2 * step)) radius l))
+    recordBytes (centreOf mode step radius (pointAt m w c q))
+    ≡ wordBytes (wordOf (pos (c * step) +ℤ offsetOf mode (negℤ (dxAt m w c q)) radius l))
+    ++ wordBytes (wordOf (pos (q * step) +ℤ offsetOf mode (negℤ (dyAt m w c q)) radius l))
+    ++ wordBytes (wordOf (heightAt m w c q +ℤ offsetOf mode (pos (2 * step)) radius l))
 unfolding recordBytes centreOf pointAt
 record-is mode step radius m w c q = refl
 
@@ -109,19 +107,14 @@ unfolding recordAt centreAt
 record-at mode m n = refl
 
 module _ (m : List ℕ) {room : ℕ} (a : Accepted m room) where
-  -- heights of the map are small, and their differences
+  -- heights of the map are small
   height-small : (c q : ℕ) → c < widthOf m → q < depthOf m → natAbs (heightAt m (widthOf m) c q) ≤ heightMost
   unfolding heightAt
   height-small c q hc hq = a .heights .small (q * widthOf m + c) (inside (widthOf m) (depthOf m) c q hc hq)
 
-  apart-small : (c q k r : ℕ) → c < widthOf m → q < depthOf m → k < widthOf m → r < depthOf m
-      → natAbs (heightAt m (widthOf m) c q -ℤ heightAt m (widthOf m) k r) ≤ 2 * heightMost
-  apart-small c q k r hc hq hk hr =
-      omega (arith, abs-sub (heightAt m (widthOf m) c q) (heightAt m (widthOf m) k r), height-small c q hc hq, height-small k r hk hr)
-
   -- the inner point n is in range
   pub inner-in-range : (n : ℕ) → n < countOf (widthOf m) (depthOf m) → InRange (stepOf m) (radiusOf m) (innerPoint m n)
-  unfolding pointAt dxAt dyAt
+  unfolding pointAt
   inner-in-range n h =
       let w = widthOf m in
       let d = depthOf m in
@@ -133,8 +126,6 @@ module _ (m : List ℕ) {room : ℕ} (a : Accepted m room) where
         column-to = omega (arith, a .sizes .narrow);
         row-to = omega (arith, a .sizes .shallow);
         height-to = height-small c q (omega arith) (omega arith);
-        dx-to = apart-small (c + 1) q (c - 1) q (omega arith) (omega arith) (omega arith) (omega arith);
-        dy-to = apart-small c (q + 1) c (q - 1) (omega arith) (omega arith) (omega arith) (omega arith);
       }
 
   -- its centre has coordinates of 32 bits

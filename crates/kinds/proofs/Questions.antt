@@ -1,12 +1,12 @@
 -- What a question that was passed tells, and the cases of the numbers. Assumes nothing.
 use mathlib.Core.Path.{_≡_, refl}
-use mathlib.Core.Bool.{Bool, true, false, cond}
+use mathlib.Core.Bool.{Bool, true, false}
 use Prim.Native.Nat.{ℕ, suc}
 use native.Mathlib.Omega.{arith}
-use lib.Dec.{T, eqb}
+use lib.Dec.{T}
 use borrow.Author.Tests.{ne-eqb}
 use Rattle.kinds.specs.declared.Op.the-variants.{Reciprocal, Root, InverseRoot}
-use Rattle.kinds.specs.Operation.{opOf, isReciprocal}
+use Rattle.kinds.specs.Operation.{opOf}
 use Rattle.kinds.specs.declared.Mode.the-variants.{Nearest, Up, Down, TowardZero}
 use Rattle.kinds.specs.Rounding.{modeOf}
 use Rattle.kinds.specs.Question.{ask}
@@ -35,15 +35,6 @@ ask-no t n rest e = rw e
 pub sure : (t : Bool) → T t → t ≡ true
 sure true h = refl
 sure false h = absurd h
-
--- operation 1 is the reciprocal, and no other number is
-pub reciprocal-named : (n : ℕ) → isReciprocal (opOf n) ≡ eqb n 1
-reciprocal-named n = named (eqb n 1) (eqb n 2)
-  where
-    named : (a b : Bool) → isReciprocal (cond a Reciprocal (cond b Root InverseRoot)) ≡ a
-    named true b = refl
-    named false true = refl
-    named false false = refl
 
 -- the case of a number, by the tests that found it
 pub op-first : (n : ℕ) → n ≡ 1 → Reciprocal ≡ opOf n

@@ -1,6 +1,6 @@
 -- One test settles n over √q, rounded: t and the next are told apart by where 2n over √q lies. Assumes nothing.
 use Prim.Native.Nat.{ℕ, suc, _+_, _-_, _*_, _/_, _%_, _^_, _≤_, _<_}
-use mathlib.Core.Path.{_≡_, refl, sym, ap, _∙_, subst}
+use mathlib.Core.Path.{_≡_, sym, ap, _∙_, subst}
 use mathlib.Core.Bool.{Bool, true, false, cond, not}
 use mathlib.Core.Logic.{by-cases}
 use native.Mathlib.Nat.{mul-le-mul, mul-le-mul-right}

@@ -5,7 +5,7 @@ use Rattle.kinds.specs.declared.Op.{Op}
 use Rattle.kinds.specs.Operation.{opOf}
 use Rattle.significand.specs.Width.{k32, t32, Operand}
 use Rattle.significand.specs.Steps.{rawOf}
-use Rattle.significand.specs.Call.{rawRefusal, rawAnswer}
+use Rattle.significand.specs.Call.{rawRefusal}
 use Rattle.significand.proofs.Accepted.{accepted, refused-answer, accepted-answer}
 use Rattle.plate.specs.Raw.{rawCall}
 

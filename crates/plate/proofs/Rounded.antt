@@ -8,7 +8,7 @@ use Rattle.kinds.specs.Operation.{opOf}
 use Rattle.kinds.specs.Rounding.{modeOf}
 use Rattle.ieee.specs.Format.{binary32}
 use Rattle.ieee.specs.Answer.{answerOf}
-use Rattle.ieee.specs.Call.{binary32Refusal, binary32Bits, binary32Status}
+use Rattle.ieee.specs.Call.{binary32Refusal}
 use Rattle.ieee.proofs.Accepted.{accepted-bits, accepted-status, refused-bits, refused-status}
 use Rattle.ieee.proofs.Flags.{flags-small}
 use Rattle.pattern.specs.declared.answer.Rounded.{Rounded}

@@ -1,5 +1,5 @@
 -- The rows of document 01's table that are marked P, together. Assumes nothing.
-use mathlib.Core.Path.{_≡_, refl}
+use mathlib.Core.Path.{_≡_}
 use Prim.Native.Nat.{ℕ}
 use lib.Dec.{T, le→leb}
 use Rattle.kinds.specs.Operation.{isOperation, opOf}

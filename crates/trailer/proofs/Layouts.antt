@@ -49,4 +49,3 @@ unfolding trailerBytes
 length-trailer k f =
     simp length-append
     (omega (arith, length-front (lettersOf k) f (length-letters k), length-radius (isWide k) (f .radius), length-rounding (isRounded k) (f .rounding), length-is k))
-

@@ -82,4 +82,3 @@ trailer-put at s k y f l l₁ l₂ l₃ h e w p q r =
     let r′ : l₃ ≡ splice (at + (14 + s)) c l₂ = r ∙ ap (λ (y : Layout). splice (at + (14 + s)) (roundingBytes (y .rounded) (f .rounding)) l₂) e in
     let e₂ : l₂ ≡ splice at (a ++ b) l = q′ ∙ splice-behind at 14 a b l l₁ n (omega arith) p′ in
     r′ ∙ splice-behind at (14 + s) (a ++ b) c l l₂ (simp length-append (omega arith)) (omega arith) e₂
-

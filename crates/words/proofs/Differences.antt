@@ -109,15 +109,12 @@ abs-neg (negsuc n) = refl
 pub neg-sub : (a b : ℤ) → negℤ (a -ℤ b) ≡ b -ℤ a
 neg-sub a b = negℤ-+ℤ a (negℤ b) ∙ ap (λ (z : ℤ). negℤ a +ℤ z) (negℤ-negℤ b) ∙ +ℤ-comm (negℤ a) b
 
--- the magnitude of a sum or a difference is at most the sum of the magnitudes
+-- the magnitude of a sum is at most the sum of the magnitudes
 pub abs-add : (a b : ℤ) → natAbs (a +ℤ b) ≤ natAbs a + natAbs b
 abs-add (pos a) (pos b) = omega arith
 abs-add (pos a) (negsuc b) = omega (arith, diff-abs a (suc b))
 abs-add (negsuc a) (pos b) = omega (arith, diff-abs b (suc a))
 abs-add (negsuc a) (negsuc b) = omega arith
-
-pub abs-sub : (a b : ℤ) → natAbs (a -ℤ b) ≤ natAbs a + natAbs b
-abs-sub a b = omega (arith, abs-add a (negℤ b), abs-neg b)
 
 -- ---- words
 

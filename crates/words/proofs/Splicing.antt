@@ -1,7 +1,7 @@
 -- Laws of bytes put over bytes: stores in a row are one splice, two splices that touch are one, and what was put is read again. Assumes nothing.
 use mathlib.Core.Path.{_≡_, sym, ap, _∙_}
 use mathlib.Core.List.{List, [], _∷_, _++_, append-assoc, append-nil}
-use Prim.Native.Nat.{ℕ, _+_, _*_, _/_, _%_, _≤_, _<_}
+use Prim.Native.Nat.{ℕ, _+_, _/_, _%_, _≤_, _<_}
 use native.Mathlib.Nat.{add-assoc, add-zero, zero-add, div-div-eq-div-mul, div-add-mod', mod-eq-of-lt, div-lt-iff-lt-mul}
 use native.Mathlib.Numerals.{add-one, add-two, add-three}
 use native.Mathlib.Omega.{arith}
