@@ -3,7 +3,6 @@ use borrow.Author.Needs.{needs}
 use Rattle.binary32.proofs.Results.{inverse-root-near, inverse-root-small, result-below}
 use Rattle.binary32.proofs.below.inverse_root.Statement.{statement}
 use Rattle.binary32.proofs.below.inverse_root.Tie as tie
-use Rattle.raw.proofs.inverse_root.Reads as inverse-root-reads′
 
 scale-requires : tie.Need-scale-requires
 scale-requires c κs = search needs

@@ -3,7 +3,6 @@ use borrow.Author.Needs.{needs}
 use Rattle.binary32.proofs.Results.{reciprocal-near, reciprocal-small, result-below}
 use Rattle.binary32.proofs.below.reciprocal.Statement.{statement}
 use Rattle.binary32.proofs.below.reciprocal.Tie as tie
-use Rattle.raw.proofs.reciprocal.Reads as reciprocal-reads′
 
 scale-requires : tie.Need-scale-requires
 scale-requires c κs = search needs

@@ -3,7 +3,6 @@ use borrow.Author.Needs.{needs}
 use Rattle.binary32.proofs.Results.{root-near, root-small, result-below}
 use Rattle.binary32.proofs.below.root.Statement.{statement}
 use Rattle.binary32.proofs.below.root.Tie as tie
-use Rattle.raw.proofs.root.Reads as root-reads′
 
 scale-requires : tie.Need-scale-requires
 scale-requires c κs = search needs
