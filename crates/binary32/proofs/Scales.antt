@@ -22,8 +22,8 @@ use Rattle.floors.proofs.Reaching.{quotient-small}
 use Rattle.significand.specs.Width.{k32, t32, Significand}
 
 -- The operand is X = y / 2^23 × 2^(j − 149), y its significand, and a floor q at the scale k stands for q × 2^(k − 3) units of 2^-149.
--- 1 / X is 2^48 / y × 2^(273 − j) units; √X is √(y × 2^(25 + p)) × 2^((j + 101 − p) / 2) units; 1 / √X is √(2^(73 − p) / y) × 2^((397 − j + p) / 2)
--- units: the parity p makes the exponent whole, and k is 3 more
+-- 1 / X is 2^48 / y × 2^(273 − j) units [273 = 2·149 − 25]; √X is √(y × 2^(25 + p)) × 2^((j + 101 − p) / 2) units [101 = 149 − 2·24];
+-- 1 / √X is √(2^(73 − p) / y) × 2^((397 − j + p) / 2) units [397 = 3·149 − 2·25]. The parity p makes the exponent whole, and k is 3 more
 abbrev pub scaleOf : Op → ℕ → ℕ
 scaleOf Reciprocal j = 276 - j
 scaleOf Root j = (j + 107) / 2

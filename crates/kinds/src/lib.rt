@@ -4,7 +4,6 @@ ghost use Rattle.kinds.specs.Operation.{isOperation, opOf, isReciprocal}
 ghost use Rattle.kinds.specs.Rounding.{isRounding, modeOf, away};
 ghost use Rattle.kinds.specs.Question.{ask as Question·ask};
 ghost use Rattle.kinds.specs.Guard.{placeOf};
-ghost use Rattle.kinds.specs.Flag.{invalid, divisionByZero, overflow, underflow, inexact};
 
 pub enum Op {
     Reciprocal,

@@ -1,7 +1,7 @@
 -- The pattern below an exact result as the code works it out. Assumes nothing.
 use mathlib.Core.Path.{_≡_}
 use mathlib.Core.Bool.{Bool, not, _||_}
-use Prim.Native.Nat.{ℕ, _+_, _*_, _-_, _/_, _%_, _^_, _≤_, min}
+use Prim.Native.Nat.{ℕ, _+_, _*_, _-_, _/_, _%_, _^_, _≤_, _<_, min}
 use native.Mathlib.Nat.{mod-eq-of-lt, div-mul-le-self}
 use native.Mathlib.Omega.{arith}
 use lib.Dec.{eqb, leb}
@@ -10,7 +10,7 @@ use Rattle.rounding.specs.Neighbour.{neighbourOf}
 use Rattle.rounding.specs.declared.neighbour.Neighbour.{Neighbour}
 
 -- the shifts lose nothing but the bits that have no place
-pub neighbour-is : (q k lost raised pattern : ℕ) (more : Bool) → q ≤ 2 ^ 25 → k ≤ 276 → lost ≡ 2 - k → raised ≡ k - 2
+pub neighbour-is : (q k lost raised pattern : ℕ) (more : Bool) → q ≤ 2 ^ 25 → k < 2 ^ 9 → lost ≡ 2 - k → raised ≡ k - 2
     → pattern ≡ min (raised * 2 ^ 23 % 2 ^ 64 + q / 2 ^ lost / 2) (infinity binary32 - 1)
     → _≡_ {A = Neighbour} (record {
       pattern = pattern;

@@ -1,6 +1,6 @@
 // From a floor with a guard bit to the pattern below the exact result.
 ghost use mathlib.Core.Path.{_≡_};
-ghost use Prim.Native.Nat.{_-_, _^_, _≤_, min};
+ghost use Prim.Native.Nat.{_-_, _^_, _≤_, _<_, min};
 ghost use Rattle.rounding.specs.Neighbour.{neighbourOf};
 use pattern::Pattern;
 
@@ -21,7 +21,7 @@ const LARGEST: u64 = INFINITY - 1;
 // The floor q at the scale k stands for q × 2^(k − 3) units. Below k = 2 the result is subnormal and loses 2 − k bits. Where q is
 // 2^25, the carry into the exponent comes out right by itself.
 pub fn lower(q: u64, more: bool, k: u64) -> Neighbour
-    requires { ⌜ (q ≤ 2 ^ 25) × (k ≤ 276) ⌝ }
+    requires { ⌜ (q ≤ 2 ^ 25) × (k < 2 ^ 9) ⌝ }
     ensures { λ r. ⌜ r ≡ neighbourOf q more k ⌝ }
 {
     let lost = saturating_sub(2, k);
