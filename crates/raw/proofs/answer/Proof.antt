@@ -1,6 +1,6 @@
 -- `raw::answer` meets its contract: a law for each operation. Assumes nothing.
 use borrow.Author.Needs.{needs}
-use Rattle.raw.proofs.Products.{reciprocal-answer, root-answer, inverse-root-answer}
+use Rattle.raw.proofs.Answers.{reciprocal-answer, root-answer, inverse-root-answer}
 use Rattle.raw.proofs.answer.Statement.{statement}
 use Rattle.raw.proofs.answer.Tie as tie
 

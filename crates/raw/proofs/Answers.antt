@@ -1,4 +1,4 @@
--- The product of step 5 and the raw answer that it is. Assumes nothing.
+-- The product of step 5, the raw answer that it is, and the answer by the operation. Assumes nothing.
 use mathlib.Core.Path.{_≡_, sym}
 use Prim.Native.Nat.{ℕ, _*_, _/_, _^_, _<_}
 use native.Mathlib.Nat.{mul-le-mul}
@@ -12,8 +12,8 @@ use Rattle.series.specs.declared.Reduction.{Reduction}
 use Rattle.series.specs.Parts.{Reduced}
 
 -- M × b has 59 bits
-pub scaled-product : (m b : ℕ) → m < 2 ^ 30 → b < 2 ^ 29 → m * b < 2 ^ 59
-scaled-product m b hm hb = omega (arith, mul-le-mul {n₁ = m} {m₁ = b} {n₂ = 1073741823} {m₂ = 536870911} (omega arith) (omega arith))
+pub product-small : (m b : ℕ) → m < 2 ^ 30 → b < 2 ^ 29 → m * b < 2 ^ 59
+product-small m b hm hb = omega (arith, mul-le-mul {n₁ = m} {m₁ = b} {n₂ = 1073741823} {m₂ = 536870911} (omega arith) (omega arith))
 
 -- M times b of the reduced significand is the raw answer
 module _ (y r b g : ℕ) (d : Reduction) (e : r ≡ factorOf k32 (y / 65536)) (h : Reduced (y * r) d) where
