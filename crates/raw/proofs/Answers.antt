@@ -4,7 +4,7 @@ use Prim.Native.Nat.{ℕ, _*_, _/_, _^_, _<_}
 use native.Mathlib.Nat.{mul-le-mul}
 use native.Mathlib.Omega.{arith}
 use Rattle.kinds.specs.declared.Op.{Op}
-use Rattle.kinds.specs.declared.Op.the-variants.{Reciprocal, Root, InverseRoot}
+use Rattle.kinds.specs.declared.Op.the-variants.{Reciprocal}
 use Rattle.significand.specs.Width.{k32, t32, Operand}
 use Rattle.significand.specs.Steps.{factorOf, seriesOf, multiplierOf, rawOf}
 use Rattle.significand.proofs.Numerals.{reciprocal-multiplier, answer-is}
@@ -32,8 +32,5 @@ module _ (op : Op) (y p g : ℕ) where
   pub reciprocal-answer : op ≡ Reciprocal → Operand op y p → g ≡ rawOf k32 t32 Reciprocal y 0 → g ≡ rawOf k32 t32 op y p
   reciprocal-answer o h e = rw (h .even o, o) e
 
-  pub root-answer : op ≡ Root → g ≡ rawOf k32 t32 Root y p → g ≡ rawOf k32 t32 op y p
-  root-answer o e = rw o e
-
-  pub inverse-root-answer : op ≡ InverseRoot → g ≡ rawOf k32 t32 InverseRoot y p → g ≡ rawOf k32 t32 op y p
-  inverse-root-answer o e = rw o e
+  pub case-answer : (case : Op) → op ≡ case → g ≡ rawOf k32 t32 case y p → g ≡ rawOf k32 t32 op y p
+  case-answer case o e = rw o e
