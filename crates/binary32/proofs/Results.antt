@@ -65,12 +65,5 @@ module _ (e x : ℕ) (s : Scaled) (h : Scaling (magnitudeOf binary32 (patternOf 
       (guarded _ (s .significand) (s .exponent) (h .is) (h .significand) (h .small) op r reached) i
 
 -- the operation by its case
-module _ (op : Op) (e x : ℕ) (r : Neighbour) where
-  pub below-reciprocal : op ≡ Reciprocal → BelowResult Reciprocal e x r → BelowResult op e x r
-  below-reciprocal o b = rw o b
-
-  pub below-root : op ≡ Root → BelowResult Root e x r → BelowResult op e x r
-  below-root o b = rw o b
-
-  pub below-inverse-root : op ≡ InverseRoot → BelowResult InverseRoot e x r → BelowResult op e x r
-  below-inverse-root o b = rw o b
+pub below-case : (op case : Op) (e x : ℕ) (r : Neighbour) → op ≡ case → BelowResult case e x r → BelowResult op e x r
+below-case op case e x r o b = rw o b

@@ -12,6 +12,7 @@ use lib.Pow.{pow-pos}
 use Rattle.kinds.specs.declared.Op.{Op}
 use Rattle.kinds.specs.declared.Op.the-variants.{Reciprocal, Root, InverseRoot}
 use Rattle.numbers.proofs.Powers.{power-sum}
+use Rattle.significand.specs.Width.{k32, t32, Significand}
 use Rattle.ieee.specs.Format.{binary32, unitOf}
 use Rattle.ieee.specs.Rounded.{side, limit, twice}
 use Rattle.ieee.specs.Guarded.{Guarded}
@@ -19,11 +20,10 @@ use Rattle.ieee.proofs.Neighbours.{side-rising}
 use Rattle.floors.specs.Floor.{targetOf, Reached}
 use Rattle.floors.specs.declared.Partial.{Partial}
 use Rattle.floors.proofs.Reaching.{quotient-small}
-use Rattle.significand.specs.Width.{k32, t32, Significand}
 
 -- The operand is X = y / 2^23 × 2^(j − 149), y its significand, and a floor q at the scale k stands for q × 2^(k − 3) units of 2^-149.
--- 1 / X is 2^48 / y × 2^(273 − j) units; √X is √(y × 2^(25 + p)) × 2^((j + 101 − p) / 2) units; 1 / √X is √(2^(73 − p) / y) × 2^((397 − j + p) / 2)
--- units: the parity p makes the exponent whole, and k is 3 more
+-- 1 / X is 2^48 / y × 2^(273 − j) units [273 = 2·149 − 25]; √X is √(y × 2^(25 + p)) × 2^((j + 101 − p) / 2) units [101 = 149 − 2·24];
+-- 1 / √X is √(2^(73 − p) / y) × 2^((397 − j + p) / 2) units [397 = 3·149 − 2·25]. The parity p makes the exponent whole, and k is 3 more
 abbrev pub scaleOf : Op → ℕ → ℕ
 scaleOf Reciprocal j = 276 - j
 scaleOf Root j = (j + 107) / 2
@@ -104,7 +104,7 @@ powers-three i j k m n e =
     ap (λ (p : ℕ). 2 ^ i * p) (power-sum j k (j + k) refl) ∙ power-sum i (j + k) (m + n) e ∙ sym (power-sum m n (m + n) refl)
 
 -- The scales: x × 2^23 is y × 2^j
-module _ (x y j : ℕ) (is : x * 2 ^ 23 ≡ y * 2 ^ j) (Y : Significand k32 t32 y) (small : j ≤ 276) where
+module _ (x y j : ℕ) (is : x * 2 ^ 23 ≡ y * 2 ^ j) (Y : Significand k32 t32 y) (small : j ≤ 254 + 22) where
   -- the reciprocal's: the two lowest are those of subnormal results
   reciprocal-guarded : (r : Partial) → Reached Reciprocal y (targetOf Reciprocal y (parityOf Reciprocal j)) r 0
       → Guarded binary32 Reciprocal x (r .quotient) (not (eqb (r .left) 0)) (scaleOf Reciprocal j)

@@ -149,16 +149,16 @@ reciprocal-reached y g a b r near sa sb sr =
     nearer Reciprocal y (2 ^ 48) 0 b r (nearer Reciprocal y (2 ^ 48) 1 a b first sb) sr
 
 -- the root's target fits a word
-pub root-target : (y p : ℕ) → y < 16777216 → p ≤ 1 → y * 2 ^ (25 + p) < 2 ^ 50
+pub root-target : (y p : ℕ) → y < 2 ^ 24 → p ≤ 1 → y * 2 ^ (25 + p) < 2 ^ 50
 root-target y zero h k = omega arith
 root-target y (suc zero) h k = omega arith
 root-target y (suc (suc p)) h k = omega arith
 
-pub root-shifted : (y p : ℕ) → y < 16777216 → p ≤ 1 → y * 2 ^ (25 + p) % 2 ^ 64 ≡ y * 2 ^ (25 + p)
+pub root-shifted : (y p : ℕ) → y < 2 ^ 24 → p ≤ 1 → y * 2 ^ (25 + p) % 2 ^ 64 ≡ y * 2 ^ (25 + p)
 root-shifted y p h k = mod-eq-of-lt (omega (arith, root-target y p h k))
 
 -- the root's one step
-pub root-reached : (y p g : ℕ) (r : Partial) → y < 16777216 → p ≤ 1 → Near Root k32 t32 y p 8 g
+pub root-reached : (y p g : ℕ) (r : Partial) → y < 2 ^ 24 → p ≤ 1 → Near Root k32 t32 y p 8 g
     → Stepped (record { quotient = (g - 8) / 16; left = y * 2 ^ (25 + p) % 2 ^ 64 - (g - 8) / 16 * ((g - 8) / 16) }) (2 * ((g - 8) / 16) + 1) r
     → Reached Root y (targetOf Root y p) r 0
 root-reached y p g r h k near s =
@@ -181,7 +181,7 @@ unfolding remainderOf
 remainder-is q y = ap (λ (n : ℕ). (2 ^ 57 - n) % 2 ^ 56) (lower-bits (q * q) y)
 
 -- three steps of the inverse root take fewer than 56 bits
-inverse-room : (q y : ℕ) → q ≤ 2 ^ 25 → y < 16777216 → side InverseRoot y (q + 3) < side InverseRoot y q + 2 ^ 56
+inverse-room : (q y : ℕ) → q ≤ 2 ^ 25 → y < 2 ^ 24 → side InverseRoot y (q + 3) < side InverseRoot y q + 2 ^ 56
 inverse-room q y h k = omega (arith, mul-le-mul h (le-of-lt k))
 
 inverse-target : (y p : ℕ) → p ≤ 1 → (m : ℕ) × (targetOf InverseRoot y p ≡ m * 2 ^ 56)

@@ -20,14 +20,14 @@ unfolding binary32Refusal
 refusal-is operation rounding q r known mode ek em eq e = rw (e, eq, em, ek)
 
 -- a call with a known operation and a known rounding is accepted
-pub accepted : (operation rounding : ℕ) → T (isOperation operation) → T (isRounding rounding) → binary32Refusal operation rounding ≡ 0
+pub unrefused : (operation rounding : ℕ) → T (isOperation operation) → T (isRounding rounding) → binary32Refusal operation rounding ≡ 0
 unfolding binary32Refusal
-accepted operation rounding h k = asked (isOperation operation) 1 (ask (isRounding rounding) 2 0) h ∙ asked (isRounding rounding) 2 0 k
+unrefused operation rounding h k = asked (isOperation operation) 1 (ask (isRounding rounding) 2 0) h ∙ asked (isRounding rounding) 2 0 k
 
 -- and one that is accepted has both
-pub known-both : (operation rounding : ℕ) → binary32Refusal operation rounding ≡ 0 → T (isOperation operation) × T (isRounding rounding)
+pub accepted : (operation rounding : ℕ) → binary32Refusal operation rounding ≡ 0 → T (isOperation operation) × T (isRounding rounding)
 unfolding binary32Refusal
-known-both operation rounding e =
+accepted operation rounding e =
     let first = yes (isOperation operation) 0 (ask (isRounding rounding) 2 0) e in (first .0, yes (isRounding rounding) 1 0 (first .1) .0)
 
 module _ (operation rounding b : ℕ) where

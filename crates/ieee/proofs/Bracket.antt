@@ -20,7 +20,7 @@ use Rattle.ieee.specs.Agree.{Agree}
 use Rattle.ieee.specs.Bracket.{Bracket}
 use Rattle.ieee.proofs.Representable.{Regular}
 use Rattle.ieee.proofs.Exact.{reached-agrees, agree-reached}
-use Rattle.ieee.proofs.Accepted.{accepted, accepted-bits}
+use Rattle.ieee.proofs.Accepted.{unrefused, accepted-bits}
 use Rattle.ieee.proofs.Finite.{finite-answer}
 
 module _ (f : Format) (op : Op) (x : ℕ) where
@@ -76,4 +76,4 @@ bracket op t = format-bracket binary32 binary32-regular op t
 pub call-bracket : (operation : ℕ) → T (isOperation operation) → (t : ℕ) → 0 < t → t < infinity binary32
     → Bracket (Agree binary32 (opOf operation) (magnitudeOf binary32 t)) (binary32Bits operation 2 t) (binary32Bits operation 1 t)
 call-bracket operation h t p l =
-    rw (accepted-bits operation 2 t (accepted operation 2 h tt), accepted-bits operation 1 t (accepted operation 1 h tt)) (bracket (opOf operation) t p l)
+    rw (accepted-bits operation 2 t (unrefused operation 2 h tt), accepted-bits operation 1 t (unrefused operation 1 h tt)) (bracket (opOf operation) t p l)

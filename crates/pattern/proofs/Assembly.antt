@@ -9,7 +9,7 @@ use Rattle.ieee.specs.Answer.{withSignBit}
 use Rattle.pattern.specs.Parts.{PartsOf}
 
 -- a mask of ones is a remainder
-pub parts-are : (b : ℕ) → b < 2 ^ 32 → PartsOf b (record { sign = b / 2 ^ 31; exponent = bitAnd (b / 2 ^ 23) 255; fraction = bitAnd b 8388607 })
+pub parts-are : (b : ℕ) → b < 2 ^ 32 → PartsOf b (record { sign = b / 2 ^ 31; exponent = bitAnd (b / 2 ^ 23) (2 ^ 8 - 1); fraction = bitAnd b (2 ^ 23 - 1) })
 parts-are b h =
     rw (and-mask (b / 2 ^ 23) 8, and-mask b 23)
     (record { is = refl; ranges = record { sign = omega arith; exponent = omega arith; fraction = omega arith } })

@@ -1,5 +1,5 @@
 // A finite operand as a significand and a power of two.
-ghost use Prim.Native.Nat.{_<_};
+ghost use Prim.Native.Nat.{_^_, _<_};
 ghost use Rattle.ieee.specs.Format.{binary32, magnitudeOf};
 ghost use Rattle.pattern.specs.Parts.{patternOf};
 ghost use Rattle.pattern.specs.Operand.{Ordinary, Scaling};
@@ -10,6 +10,9 @@ pub struct Scaled {
     pub exponent: u64,
 }
 
+// The leading one of a significand, which a pattern leaves out.
+const HIDDEN_BIT: u64 = 0x80_0000;
+
 pub fn scale(exponent: u32, fraction: u32) -> Scaled
     requires { ⌜ Ordinary exponent fraction ⌝ }
     ensures { λ r. ⌜ Scaling (magnitudeOf binary32 (patternOf exponent fraction)) r ⌝ }
@@ -18,19 +21,19 @@ pub fn scale(exponent: u32, fraction: u32) -> Scaled
         return normalized(fraction as u64);
     }
     Scaled {
-        significand: 0x80_0000 + fraction as u64,
+        significand: HIDDEN_BIT + fraction as u64,
         exponent: exponent as u64 + 22,
     }
 }
 
 // A subnormal operand: its fraction is shifted up until it has 24 bits.
 fn normalized(fraction: u64) -> Scaled
-    requires { ⌜ (0 < fraction) × (fraction < 8388608) ⌝ }
+    requires { ⌜ (0 < fraction) × (fraction < 2 ^ 23) ⌝ }
     ensures { λ r. ⌜ Scaling fraction r ⌝ }
 {
     let mut y = fraction;
     let mut j = 23;
-    while y < 0x80_0000 {
+    while y < HIDDEN_BIT {
         y = 2 * y;
         j -= 1;
     }

@@ -10,6 +10,7 @@ use kinds::Flags;
 use kinds::Mode;
 use kinds::goes_away;
 use neighbour::Neighbour;
+use pattern::Pattern;
 use pattern::answer::Rounded;
 use pattern::answer::flag_if;
 use pattern::answer::with_sign;
@@ -22,8 +23,8 @@ pub fn round(mode: Mode, sign: u32, n: Neighbour) -> Rounded
     let odd = n.pattern % 2 == 1;
     let t = next_if(goes_away(mode, sign == 1, odd, n.half, n.more), n.pattern);
     let inexact = n.half | n.more;
-    let overflow = n.beyond | (t == 0x7F80_0000);
-    let underflow = (n.pattern < 0x80_0000) & inexact;
+    let overflow = n.beyond | (t == Pattern::INFINITY);
+    let underflow = (n.pattern < Pattern::LEAST_NORMAL) & inexact;
     let flags = flag_if(overflow, Flags::OVERFLOW)
         + flag_if(underflow, Flags::UNDERFLOW)
         + flag_if(inexact, Flags::INEXACT);

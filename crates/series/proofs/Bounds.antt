@@ -14,4 +14,4 @@ digits-product a b ha hb = omega (arith, mul-le-mul {n₁ = a} {m₁ = b} {n₂ 
 -- y × R has 33 bits
 pub reduced-product : (y r : ℕ) → Significand k32 t32 y → r ≡ factorOf k32 (y / 65536) → y * r < 2 ^ 33
 reduced-product y r Y e =
-    omega (arith, mul-le-mul {n₁ = y} {m₁ = r} {n₂ = 16777216} {m₂ = 256} (omega (arith, Y .below)) (factor-small y Y r e))
+    omega (arith, mul-le-mul {n₁ = y} {m₁ = r} {n₂ = 2 ^ 24} {m₂ = 256} (omega (arith, Y .below)) (factor-small y Y r e))

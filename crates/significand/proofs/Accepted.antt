@@ -29,7 +29,7 @@ pub refusal-is : (operation y p q r s : ℕ) (op : Op) (known reciprocal : Bool)
     → op ≡ opOf operation
     → reciprocal ≡ isReciprocal op
     → q ≡ ask (eqb p 0 || (eqb p 1 && not reciprocal)) 4 0
-    → r ≡ ask (leb 8388608 y && ltb y 16777216) 3 q
+    → r ≡ ask (leb (2 ^ 23) y && ltb y (2 ^ 24)) 3 q
     → s ≡ ask known 1 r
     → s ≡ rawRefusal operation y p
 unfolding rawRefusal

@@ -11,6 +11,7 @@ ghost use Rattle.pattern.specs.Answer.{roundedAnswer};
 ghost use Rattle.special.specs.Special.{isSpecial, specialTo, edgeOf};
 use kinds::Flags;
 use kinds::Op;
+use pattern::Pattern;
 use pattern::answer::Rounded;
 use pattern::answer::flag_if;
 use pattern::answer::with_sign;
@@ -70,7 +71,7 @@ fn not_a_number(raises: bool) -> Rounded
     ensures { λ r. ⌜ r ≡ record { bits = quietNaN binary32; flags = cond raises invalid 0 } ⌝ }
 {
     Rounded {
-        bits: 0x7FC0_0000,
+        bits: Pattern::QUIET_NAN,
         flags: flag_if(raises, Flags::INVALID),
     }
 }
@@ -102,7 +103,7 @@ fn at_infinity(op: Op, sign: u32) -> Rounded
 {
     match op {
         Op::Reciprocal => exact(with_sign(sign, 0)),
-        Op::Root => exact(0x7F80_0000),
+        Op::Root => exact(Pattern::INFINITY),
         Op::InverseRoot => exact(0),
     }
 }
@@ -112,7 +113,7 @@ fn divided_by_zero(sign: u32) -> Rounded
     ensures { λ r. ⌜ r ≡ roundedAnswer (answer (withSignBit binary32 sign (infinity binary32)) divisionByZero) ⌝ }
 {
     Rounded {
-        bits: with_sign(sign, 0x7F80_0000),
+        bits: with_sign(sign, Pattern::INFINITY),
         flags: Flags::DIVISION_BY_ZERO,
     }
 }

@@ -1,6 +1,6 @@
--- `raw::answer` meets its contract: a law for each operation. Assumes nothing.
+-- `raw::answer` meets its contract: each operation has its own function. Assumes nothing.
 use borrow.Author.Needs.{needs}
-use Rattle.raw.proofs.Products.{reciprocal-answer, root-answer, inverse-root-answer}
+use Rattle.raw.proofs.Answers.{reciprocal-answer, case-answer}
 use Rattle.raw.proofs.answer.Statement.{statement}
 use Rattle.raw.proofs.answer.Tie as tie
 
@@ -26,10 +26,10 @@ returns : tie.Need-returns
 returns c = search reciprocal-answer
 
 returns-2 : tie.Need-returns-2
-returns-2 c = search root-answer
+returns-2 c = search case-answer
 
 returns-3 : tie.Need-returns-3
-returns-3 c = search inverse-root-answer
+returns-3 c = search case-answer
 
 pub answer-spec : {M : Type 1} → statement M
 answer-spec =

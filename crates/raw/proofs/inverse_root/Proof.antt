@@ -1,7 +1,7 @@
 -- `raw::inverse_root` meets its contract. Assumes nothing.
 use borrow.Author.Needs.{needs}
 use Rattle.significand.proofs.Sizes.{multiplier-small}
-use Rattle.raw.proofs.Products.{raw-is}
+use Rattle.raw.proofs.Answers.{raw-is}
 use Rattle.raw.proofs.inverse_root.Statement.{statement}
 use Rattle.raw.proofs.inverse_root.Tie as tie
 

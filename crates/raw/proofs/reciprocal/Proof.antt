@@ -2,7 +2,7 @@
 use borrow.Author.Needs.{needs}
 use native.Mathlib.Omega.{arith}
 use Rattle.significand.proofs.Sizes.{factor-small}
-use Rattle.raw.proofs.Products.{reciprocal-raw-is}
+use Rattle.raw.proofs.Answers.{reciprocal-raw-is}
 use Rattle.raw.proofs.reciprocal.Statement.{statement}
 use Rattle.raw.proofs.reciprocal.Tie as tie
 

@@ -1,6 +1,6 @@
--- `binary32::below::below` meets its contract: a law for each operation. Assumes nothing.
+-- `binary32::below::below` meets its contract: each operation has its own function. Assumes nothing.
 use borrow.Author.Needs.{needs}
-use Rattle.binary32.proofs.Results.{below-reciprocal, below-root, below-inverse-root}
+use Rattle.binary32.proofs.Results.{below-case}
 use Rattle.binary32.proofs.below.below.Statement.{statement}
 use Rattle.binary32.proofs.below.below.Tie as tie
 
@@ -23,13 +23,13 @@ inverse-root-requires : tie.Need-inverse-root-requires
 inverse-root-requires c κs = search needs
 
 returns : tie.Need-returns
-returns c = search below-reciprocal
+returns c = search below-case
 
 returns-2 : tie.Need-returns-2
-returns-2 c = search below-root
+returns-2 c = search below-case
 
 returns-3 : tie.Need-returns-3
-returns-3 c = search below-inverse-root
+returns-3 c = search below-case
 
 pub below-spec : {M : Type 1} → statement M
 below-spec =

@@ -1,10 +1,10 @@
--- The product of step 5 and the raw answer that it is. Assumes nothing.
+-- The product of step 5, the raw answer that it is, and the answer by the operation. Assumes nothing.
 use mathlib.Core.Path.{_≡_, sym}
 use Prim.Native.Nat.{ℕ, _*_, _/_, _^_, _<_}
 use native.Mathlib.Nat.{mul-le-mul}
 use native.Mathlib.Omega.{arith}
 use Rattle.kinds.specs.declared.Op.{Op}
-use Rattle.kinds.specs.declared.Op.the-variants.{Reciprocal, Root, InverseRoot}
+use Rattle.kinds.specs.declared.Op.the-variants.{Reciprocal}
 use Rattle.significand.specs.Width.{k32, t32, Operand}
 use Rattle.significand.specs.Steps.{factorOf, seriesOf, multiplierOf, rawOf}
 use Rattle.significand.proofs.Numerals.{reciprocal-multiplier, answer-is}
@@ -12,8 +12,8 @@ use Rattle.series.specs.declared.Reduction.{Reduction}
 use Rattle.series.specs.Parts.{Reduced}
 
 -- M × b has 59 bits
-pub scaled-product : (m b : ℕ) → m < 2 ^ 30 → b < 2 ^ 29 → m * b < 2 ^ 59
-scaled-product m b hm hb = omega (arith, mul-le-mul {n₁ = m} {m₁ = b} {n₂ = 1073741823} {m₂ = 536870911} (omega arith) (omega arith))
+pub product-small : (m b : ℕ) → m < 2 ^ 30 → b < 2 ^ 29 → m * b < 2 ^ 59
+product-small m b hm hb = omega (arith, mul-le-mul {n₁ = m} {m₁ = b} {n₂ = 1073741823} {m₂ = 536870911} (omega arith) (omega arith))
 
 -- M times b of the reduced significand is the raw answer
 module _ (y r b g : ℕ) (d : Reduction) (e : r ≡ factorOf k32 (y / 65536)) (h : Reduced (y * r) d) where
@@ -32,8 +32,5 @@ module _ (op : Op) (y p g : ℕ) where
   pub reciprocal-answer : op ≡ Reciprocal → Operand op y p → g ≡ rawOf k32 t32 Reciprocal y 0 → g ≡ rawOf k32 t32 op y p
   reciprocal-answer o h e = rw (h .even o, o) e
 
-  pub root-answer : op ≡ Root → g ≡ rawOf k32 t32 Root y p → g ≡ rawOf k32 t32 op y p
-  root-answer o e = rw o e
-
-  pub inverse-root-answer : op ≡ InverseRoot → g ≡ rawOf k32 t32 InverseRoot y p → g ≡ rawOf k32 t32 op y p
-  inverse-root-answer o e = rw o e
+  pub case-answer : (case : Op) → op ≡ case → g ≡ rawOf k32 t32 case y p → g ≡ rawOf k32 t32 op y p
+  case-answer case o e = rw o e
