@@ -7,7 +7,7 @@ use lib.Dec.{T}
 use lib.ListN.{length}
 use Rattle.kinds.specs.Operation.{isOperation}
 use Rattle.ieee.specs.Format.{binary32, infinity}
-use Rattle.ieee.proofs.Accepted.{known-both}
+use Rattle.ieee.proofs.Accepted.{accepted}
 use Rattle.ieee.proofs.Bracket.{call-bracket}
 use Rattle.cutter.specs.Call.{listRefusal}
 use Rattle.cutter.proofs.Entries.{list-held}
@@ -30,7 +30,7 @@ pub binary32-bracket : (operation operand : ℕ) (a b : Status) (lower upper : B
     → Binary32Bracket operation operand lower upper
 binary32-bracket operation operand a b lower upper e f r s p l =
     let known : T (isOperation operation) =
-    known-both operation 2 (sym (ap (λ (x : Binary32Reply). x .refusal) e) ∙ r) .0 in
+    accepted operation 2 (sym (ap (λ (x : Binary32Reply). x .refusal) e) ∙ r) .0 in
     let k = call-bracket operation known operand p l in
     rw (e, f) (record { equal = k .equal; next = k .next })
 

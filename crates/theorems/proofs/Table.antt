@@ -5,11 +5,11 @@ use lib.Dec.{T, le→leb}
 use Rattle.kinds.specs.Operation.{isOperation, opOf}
 use Rattle.kinds.specs.Rounding.{isRounding, modeOf}
 use Rattle.significand.specs.Call.{rawRefusal, rawAnswer}
-use Rattle.significand.proofs.Accepted.{unrefused}
+use Rattle.significand.proofs.Accepted.{unrefused as raw-unrefused}
 use Rattle.significand.proofs.Rows.{raw-rows}
 use Rattle.ieee.specs.Format.{binary32}
 use Rattle.ieee.specs.Answer.{answer, answerOf}
-use Rattle.ieee.proofs.Accepted.{accepted, accepted-bits, accepted-status}
+use Rattle.ieee.proofs.Accepted.{unrefused, accepted-bits, accepted-status}
 use Rattle.ieee.proofs.Rows.{pattern-rows}
 use Rattle.cutter.proofs.Rows.{offset-row}
 use Rattle.theorems.specs.Table.{RawGives, Gives, Table}
@@ -21,18 +21,18 @@ raw-gives operation y p g e f = rw (e, f)
 gives : (operation rounding operand bits flags : ℕ) → T (isOperation operation) → T (isRounding rounding)
     → answerOf binary32 (opOf operation) (modeOf rounding) operand ≡ answer bits flags → Gives operation rounding operand bits flags
 gives operation rounding operand bits flags o r e s =
-    let a = accepted operation rounding o r in
+    let a = unrefused operation rounding o r in
     rw (a, accepted-bits operation rounding operand a, accepted-status operation rounding operand a (s .flags), e)
 
 pub table : Table
 table =
     record {
-      raw-1 = raw-gives 1 8388608 0 268435456 (unrefused 1 8388608 0 tt tt tt) (raw-rows .one);
-      raw-2 = raw-gives 1 12582912 0 178956970 (unrefused 1 12582912 0 tt tt tt) (raw-rows .one-and-half .answer);
+      raw-1 = raw-gives 1 8388608 0 268435456 (raw-unrefused 1 8388608 0 tt tt tt) (raw-rows .one);
+      raw-2 = raw-gives 1 12582912 0 178956970 (raw-unrefused 1 12582912 0 tt tt tt) (raw-rows .one-and-half .answer);
       raw-2-worked = raw-rows .one-and-half;
-      raw-3 = raw-gives 1 16777215 0 134217736 (unrefused 1 16777215 0 tt tt tt) (raw-rows .last);
-      raw-4 = raw-gives 2 8388608 1 379625062 (unrefused 2 8388608 1 tt tt tt) (raw-rows .root-of-two);
-      raw-5 = raw-gives 3 8388608 1 189812531 (unrefused 3 8388608 1 tt tt tt) (raw-rows .inverse-root-of-two);
+      raw-3 = raw-gives 1 16777215 0 134217736 (raw-unrefused 1 16777215 0 tt tt tt) (raw-rows .last);
+      raw-4 = raw-gives 2 8388608 1 379625062 (raw-unrefused 2 8388608 1 tt tt tt) (raw-rows .root-of-two);
+      raw-5 = raw-gives 3 8388608 1 189812531 (raw-unrefused 3 8388608 1 tt tt tt) (raw-rows .inverse-root-of-two);
       third-down = gives 1 2 _ _ _ tt tt (pattern-rows .third .down-is);
       third-up = gives 1 1 _ _ _ tt tt (pattern-rows .third .up-is);
       minus-third-down = gives 1 2 _ _ _ tt tt (pattern-rows .minus-third .down-is);

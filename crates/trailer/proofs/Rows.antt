@@ -10,11 +10,11 @@ use Rattle.trailer.specs.declared.Kind.the-variants.{Plt1, Cut1}
 abbrev map : Fields
 map = record { distance = 48; width = 3; depth = 4; step = 2000; radius = 5000; rounding = 0 }
 
-map-written : trailerBytes Plt1 map ≡ 80 ∷ 76 ∷ 84 ∷ 49 ∷ 48 ∷ 0 ∷ 0 ∷ 0 ∷ 3 ∷ 0 ∷ 4 ∷ 0 ∷ 208 ∷ 7 ∷ 136 ∷ 19 ∷ []
+pub map-written : trailerBytes Plt1 map ≡ 80 ∷ 76 ∷ 84 ∷ 49 ∷ 48 ∷ 0 ∷ 0 ∷ 0 ∷ 3 ∷ 0 ∷ 4 ∷ 0 ∷ 208 ∷ 7 ∷ 136 ∷ 19 ∷ []
 unfolding trailerBytes frontBytes wordBytes halfBytes
 map-written = refl
 
-map-read : fieldsAt Plt1 (80 ∷ 76 ∷ 84 ∷ 49 ∷ 48 ∷ 0 ∷ 0 ∷ 0 ∷ 3 ∷ 0 ∷ 4 ∷ 0 ∷ 208 ∷ 7 ∷ 136 ∷ 19 ∷ []) 0 ≡ map
+pub map-read : fieldsAt Plt1 (80 ∷ 76 ∷ 84 ∷ 49 ∷ 48 ∷ 0 ∷ 0 ∷ 0 ∷ 3 ∷ 0 ∷ 4 ∷ 0 ∷ 208 ∷ 7 ∷ 136 ∷ 19 ∷ []) 0 ≡ map
 unfolding fieldsAt
 map-read = refl
 
@@ -22,10 +22,10 @@ map-read = refl
 abbrev list : Fields
 list = record { distance = 24; width = 3; depth = 4; step = 2000; radius = 5000; rounding = 0 }
 
-list-written : trailerBytes Cut1 list ≡ 67 ∷ 85 ∷ 84 ∷ 49 ∷ 24 ∷ 0 ∷ 0 ∷ 0 ∷ 3 ∷ 0 ∷ 4 ∷ 0 ∷ 208 ∷ 7 ∷ 136 ∷ 19 ∷ []
+pub list-written : trailerBytes Cut1 list ≡ 67 ∷ 85 ∷ 84 ∷ 49 ∷ 24 ∷ 0 ∷ 0 ∷ 0 ∷ 3 ∷ 0 ∷ 4 ∷ 0 ∷ 208 ∷ 7 ∷ 136 ∷ 19 ∷ []
 unfolding trailerBytes frontBytes wordBytes halfBytes
 list-written = refl
 
-list-read : fieldsAt Cut1 (67 ∷ 85 ∷ 84 ∷ 49 ∷ 24 ∷ 0 ∷ 0 ∷ 0 ∷ 3 ∷ 0 ∷ 4 ∷ 0 ∷ 208 ∷ 7 ∷ 136 ∷ 19 ∷ []) 0 ≡ list
+pub list-read : fieldsAt Cut1 (67 ∷ 85 ∷ 84 ∷ 49 ∷ 24 ∷ 0 ∷ 0 ∷ 0 ∷ 3 ∷ 0 ∷ 4 ∷ 0 ∷ 208 ∷ 7 ∷ 136 ∷ 19 ∷ []) 0 ≡ list
 unfolding fieldsAt
 list-read = refl

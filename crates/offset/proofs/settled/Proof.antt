@@ -1,5 +1,6 @@
 -- `offset::settled` meets its contract: each return is one way of the test. Assumes nothing.
 use borrow.Author.Needs.{needs}
+use Rattle.offset.proofs.Start.{limit-fits as squares-fit}
 use Rattle.offset.proofs.Settling.{sum-fits, double-fits, middle-fits, square-fits, product-fits, limit-fits, settled-next, settled-same}
 use Rattle.offset.proofs.settled.Statement.{statement}
 use Rattle.offset.proofs.settled.Tie as tie
