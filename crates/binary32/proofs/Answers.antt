@@ -16,7 +16,7 @@ use Rattle.rounding.specs.Rounded.{roundedFrom}
 use Rattle.binary32.specs.Below.{BelowResult}
 use Rattle.special.specs.Special.{isSpecial, specialTo}
 use Rattle.pattern.specs.declared.parts.Parts.{Parts}
-use Rattle.rounding.specs.declared.neighbour.Neighbour.{Neighbour}
+use Rattle.floors.specs.declared.neighbour.Neighbour.{Neighbour}
 use Rattle.pattern.specs.declared.answer.Rounded.{Rounded}
 
 -- the fields together are the pattern

@@ -18,13 +18,13 @@ use Rattle.ieee.specs.Format.{binary32, magnitudeOf}
 use Rattle.pattern.specs.Parts.{patternOf}
 use Rattle.pattern.specs.Operand.{Scaling}
 use Rattle.floors.specs.Floor.{targetOf, Reached}
-use Rattle.rounding.specs.Neighbour.{neighbourOf}
+use Rattle.floors.specs.Neighbour.{neighbourOf}
 use Rattle.binary32.specs.Below.{BelowResult}
 use Rattle.pattern.specs.declared.operand.Scaled.{Scaled}
 use Rattle.floors.specs.declared.Partial.{Partial}
-use Rattle.rounding.specs.declared.neighbour.Neighbour.{Neighbour}
+use Rattle.floors.specs.declared.neighbour.Neighbour.{Neighbour}
 use Rattle.floors.proofs.Reaching.{quotient-small}
-use Rattle.rounding.proofs.Below.{neighbour-below}
+use Rattle.floors.proofs.Below.{neighbour-below}
 use Rattle.binary32.proofs.Scales.{scaleOf, parityOf, guarded}
 
 -- the raw answers are near

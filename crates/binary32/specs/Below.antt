@@ -4,7 +4,7 @@ use Rattle.kinds.specs.declared.Op.{Op}
 use Rattle.ieee.specs.Format.{binary32, magnitudeOf}
 use Rattle.ieee.specs.Guarded.{Below}
 use Rattle.pattern.specs.Parts.{patternOf}
-use Rattle.rounding.specs.declared.neighbour.Neighbour.{Neighbour}
+use Rattle.floors.specs.declared.neighbour.Neighbour.{Neighbour}
 
 -- the neighbour is the one below the exact result of the operand with the exponent e and the fraction x
 abbrev pub BelowResult : Op → ℕ → ℕ → Neighbour → Type 0

@@ -2,10 +2,10 @@
 ghost use Rattle.kinds.specs.declared.Op.the-variants.{Reciprocal, Root, InverseRoot};
 ghost use Rattle.pattern.specs.Operand.{Ordinary};
 ghost use Rattle.binary32.specs.Below.{BelowResult};
+use floors::neighbour::Neighbour;
+use floors::neighbour::lower;
 use kinds::Op;
 use pattern::operand::scale;
-use rounding::neighbour::Neighbour;
-use rounding::neighbour::lower;
 
 // A floor q at the scale k stands for q × 2^(k − 3) units of 2^-149. The operand is X = y / 2^23 × 2^(j − 149), j = x.exponent.
 // 1 / X is 2^48 / y × 2^(2·149 − 25 − j) units.

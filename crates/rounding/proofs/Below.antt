@@ -1,27 +1,18 @@
--- The neighbour is the pattern below the exact result, and its rounding the rounded result. Assumes nothing.
+-- The pattern below the exact result, rounded, is the rounded result. Assumes nothing.
 use mathlib.Core.Path.{_≡_, sym, ap, ap₂}
-use mathlib.Core.Bool.{Bool}
-use Prim.Native.Nat.{ℕ, _<_}
+use Prim.Native.Nat.{ℕ}
 use native.Mathlib.Omega.{arith}
 use lib.Dec.{eqb}
 use Rattle.kinds.specs.declared.Op.{Op}
 use Rattle.kinds.specs.declared.Mode.{Mode}
 use Rattle.ieee.specs.Format.{binary32, magnitudeOf}
 use Rattle.ieee.specs.Answer.{withSignBit, toFinite}
-use Rattle.ieee.specs.Guarded.{Guarded, Below}
-use Rattle.ieee.proofs.Guarded.{guarded-below}
+use Rattle.ieee.specs.Guarded.{Below}
 use Rattle.ieee.proofs.Rounding.{rounded-is, flags-are}
 use Rattle.pattern.specs.Answer.{roundedAnswer}
 use Rattle.pattern.specs.declared.answer.Rounded.{Rounded}
-use Rattle.rounding.specs.Neighbour.{neighbourOf}
 use Rattle.rounding.specs.Rounded.{takenFrom, roundedFrom}
-use Rattle.rounding.specs.declared.neighbour.Neighbour.{Neighbour}
-
--- the floor with its guard bit gives the neighbour
-pub neighbour-below : (op : Op) (x q k : ℕ) (more : Bool) (n : Neighbour) → 0 < x → Guarded binary32 op x q more k → n ≡ neighbourOf q more k
-    → Below binary32 op x (n .pattern) (n .half) (n .more) (n .beyond)
-unfolding neighbourOf
-neighbour-below op x q k more n pos g e = rw e (guarded-below binary32 op x q more k pos g (omega arith))
+use Rattle.floors.specs.declared.neighbour.Neighbour.{Neighbour}
 
 abbrev made : ℕ → ℕ → Rounded
 made b f = record { bits = b; flags = f }

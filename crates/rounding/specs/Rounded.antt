@@ -8,7 +8,7 @@ use Rattle.kinds.specs.Guard.{placeOf}
 use Rattle.kinds.specs.Flag.{overflow, underflow, inexact}
 use Rattle.ieee.specs.Format.{binary32, infinity, leastNormal}
 use Rattle.ieee.specs.Answer.{withSignBit}
-use Rattle.rounding.specs.declared.neighbour.Neighbour.{Neighbour}
+use Rattle.floors.specs.declared.neighbour.Neighbour.{Neighbour}
 use Rattle.pattern.specs.declared.answer.Rounded.{Rounded}
 
 -- the pattern that the rounding takes

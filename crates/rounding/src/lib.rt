@@ -1,15 +1,13 @@
-// From a floor with a guard bit to the pattern below the exact result, and on to the rounded pattern and its flags.
-pub mod neighbour;
-
+// From the pattern below the exact result to the rounded pattern and its flags.
 ghost use mathlib.Core.Path.{_≡_};
 ghost use mathlib.Core.Bool.{cond};
 ghost use Prim.Native.Nat.{suc, _≤_, _<_};
 ghost use Rattle.ieee.specs.Format.{binary32, infinity};
 ghost use Rattle.rounding.specs.Rounded.{roundedFrom};
+use floors::neighbour::Neighbour;
 use kinds::Flags;
 use kinds::Mode;
 use kinds::goes_away;
-use neighbour::Neighbour;
 use pattern::Pattern;
 use pattern::answer::Rounded;
 use pattern::answer::flag_if;

@@ -6,8 +6,8 @@ use native.Mathlib.Nat.{mod-eq-of-lt, div-mul-le-self}
 use native.Mathlib.Omega.{arith}
 use lib.Dec.{eqb, leb}
 use Rattle.ieee.specs.Format.{binary32, infinity}
-use Rattle.rounding.specs.Neighbour.{neighbourOf}
-use Rattle.rounding.specs.declared.neighbour.Neighbour.{Neighbour}
+use Rattle.floors.specs.Neighbour.{neighbourOf}
+use Rattle.floors.specs.declared.neighbour.Neighbour.{Neighbour}
 
 -- the shifts lose nothing but the bits that have no place
 pub neighbour-is : (q k lost raised pattern : ℕ) (more : Bool) → q ≤ 2 ^ 25 → k < 2 ^ 9 → lost ≡ 2 - k → raised ≡ k - 2

@@ -1,11 +1,11 @@
--- `rounding::neighbour::lower` meets its contract: the shifts lose nothing but the bits that have no place. Assumes nothing.
+-- `floors::neighbour::lower` meets its contract: the shifts lose nothing but the bits that have no place. Assumes nothing.
 use Prim.Native.Nat.{_^_}
 use native.Mathlib.Nat.{div-le-self}
 use native.Mathlib.Omega.{arith}
 use borrow.Author.Needs.{needs}
-use Rattle.rounding.proofs.Shifts.{neighbour-is}
-use Rattle.rounding.proofs.neighbour.lower.Statement.{statement}
-use Rattle.rounding.proofs.neighbour.lower.Tie as tie
+use Rattle.floors.proofs.Shifts.{neighbour-is}
+use Rattle.floors.proofs.neighbour.lower.Statement.{statement}
+use Rattle.floors.proofs.neighbour.lower.Tie as tie
 
 saturating-sub-requires : tie.Need-saturating-sub-requires
 saturating-sub-requires c κs = search needs

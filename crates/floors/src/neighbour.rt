@@ -1,7 +1,7 @@
 // From a floor with a guard bit to the pattern below the exact result.
 ghost use mathlib.Core.Path.{_≡_};
 ghost use Prim.Native.Nat.{_-_, _^_, _≤_, _<_, min};
-ghost use Rattle.rounding.specs.Neighbour.{neighbourOf};
+ghost use Rattle.floors.specs.Neighbour.{neighbourOf};
 use pattern::Pattern;
 
 // The finite pattern below an exact result. The midpoint to the next is reached where `half` is true, and something lies above what

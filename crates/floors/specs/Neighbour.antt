@@ -3,7 +3,7 @@ use mathlib.Core.Bool.{Bool, _||_}
 use Prim.Native.Nat.{ℕ, _-_, min}
 use Rattle.ieee.specs.Format.{binary32, infinity}
 use Rattle.ieee.specs.Guarded.{floorPattern, guardBit, stickyBit, isBeyond}
-use Rattle.rounding.specs.declared.neighbour.Neighbour.{Neighbour}
+use Rattle.floors.specs.declared.neighbour.Neighbour.{Neighbour}
 
 -- from the floor q with a guard bit at the scale k
 unfoldable pub neighbourOf : ℕ → Bool → ℕ → Neighbour
