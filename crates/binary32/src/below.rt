@@ -39,7 +39,7 @@ fn reciprocal(exponent: u32, fraction: u32) -> Neighbour
     lower(r.quotient, r.left != 0, RECIPROCAL_SCALE - x.exponent)
 }
 
-// The parity is what is over; the halving floors.
+// The parity is what is over. Twice the scale is not negative, so that the halving floors: −3 is twice −2 with parity 1.
 fn root(exponent: u32, fraction: u32) -> Neighbour
     requires { ⌜ Ordinary exponent fraction ⌝ }
     ensures { λ r. ⌜ BelowResult Root exponent fraction r ⌝ }
