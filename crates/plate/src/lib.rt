@@ -4,7 +4,6 @@
 mod c;
 
 ghost use mathlib.Core.Path.{_≡_};
-ghost use Rattle.kinds.specs.Flag.{invalid, divisionByZero, overflow, underflow, inexact};
 ghost use Rattle.plate.specs.Status.{raised, cleared};
 ghost use Rattle.plate.specs.Raw.{rawCall};
 ghost use Rattle.plate.specs.Binary32.{binary32Call};
@@ -51,20 +50,6 @@ impl Flag {
 
     pub const INEXACT: Flag = Flag(Flags::INEXACT);
 }
-
-// Each name has the number that the document gives its operation, rounding or flag.
-pub fn operations_named()
-    ensures { λ _. do ⌜ ((← ⟦Operation::RECIPROCAL.0⟧ .entry) ≡ 1) × ((← ⟦Operation::ROOT.0⟧ .entry) ≡ 2) × ((← ⟦Operation::INVERSE_ROOT.0⟧ .entry) ≡ 3) ⌝ }
-{}
-
-pub fn roundings_named()
-    ensures { λ _. do ⌜ ((← ⟦Rounding::NEAREST.0⟧ .entry) ≡ 0) × ((← ⟦Rounding::UP.0⟧ .entry) ≡ 1) × ((← ⟦Rounding::DOWN.0⟧ .entry) ≡ 2) × ((← ⟦Rounding::TOWARD_ZERO.0⟧ .entry) ≡ 3) ⌝ }
-{}
-
-pub fn flags_named()
-    ensures { λ _. do ⌜ ((← ⟦Flag::INVALID.0⟧ .entry) ≡ invalid) × ((← ⟦Flag::DIVISION_BY_ZERO.0⟧ .entry) ≡ divisionByZero) ⌝ }
-    ensures { λ _. do ⌜ ((← ⟦Flag::OVERFLOW.0⟧ .entry) ≡ overflow) × ((← ⟦Flag::UNDERFLOW.0⟧ .entry) ≡ underflow) × ((← ⟦Flag::INEXACT.0⟧ .entry) ≡ inexact) ⌝ }
-{}
 
 // The flags that were raised since the status was last cleared, one bit each.
 pub struct Status {
