@@ -11,25 +11,20 @@ use lib.Dec.{eqb}
 use lib.Pow.{pow-pos, shr-le}
 use Rattle.kinds.specs.declared.Op.{Op}
 use Rattle.kinds.specs.declared.Op.the-variants.{Reciprocal, Root, InverseRoot}
-use Rattle.kinds.specs.Rounding.{above, placeBy}
+use Rattle.kinds.specs.Rounding.{exact, below, half, above, placeBy}
 use Rattle.kinds.specs.Guard.{placeOf}
-use Rattle.kinds.proofs.Places.{place-exact, place-above, place-half, place-below}
+use Rattle.kinds.proofs.Places.{says-place}
 use Rattle.numbers.proofs.Powers.{power-of-four}
 use Rattle.ieee.specs.Format.{Format, unitOf, infinity, magnitudeOf}
 use Rattle.ieee.specs.Rounded.{side, limit, twice, fits, lowerOf, placeAt}
 use Rattle.ieee.specs.Guarded.{Guarded, kept, floorPattern, guardBit, stickyBit, isBeyond, Below}
-use Rattle.ieee.proofs.Neighbours.{magnitude-at, rising, rising≤, side-rising, side-rising<, lower-is}
+use Rattle.ieee.proofs.Neighbours.{magnitude-at, rising, rising≤, side-rising, side-rising<, lower-is, side-double}
 
 -- a power of two times the number takes the side as often as the limit is taken
 lifted : (op : Op) (x w a b : ℕ) → twice op ^ w * side op x (a * b) ≡ side op x (a * 2 ^ w * b)
 lifted Reciprocal x w a b = omega arith
 lifted Root x w a b = rw (power-of-four w) (omega arith)
 lifted InverseRoot x w a b = rw (power-of-four w) (omega arith)
-
-side-double : (op : Op) (x v : ℕ) → side op x (2 * v) ≡ twice op * side op x v
-side-double Reciprocal x v = omega arith
-side-double Root x v = omega arith
-side-double InverseRoot x v = omega arith
 
 taken-pos : (op : Op) (w : ℕ) → 0 < twice op ^ w
 taken-pos Reciprocal w = pow-pos w
@@ -126,21 +121,24 @@ module _ (f : Format) (op : Op) (x q : ℕ) (more : Bool) (k : ℕ) (pos : 0 < x
       ≡ placeOf h s
   place-is false false p r =
       let s = not-sticky r in
-      place-exact _ _ _ _ (same (suc (2 - k)) (limit (unitOf f) op x) refl n (halved ∙ rw (← even-is p) (s .0)) (s .1))
+      says-place _ _ _ _ exact (same (suc (2 - k)) (limit (unitOf f) op x) refl n (halved ∙ rw (← even-is p) (s .0)) (s .1))
   place-is false true p r =
-      place-below _ _ _ _
-      (less (suc (2 - k)) (limit (unitOf f) op x) refl n (rw (halved, ← even-is p) kept-low)
-      (λ e. sticky r (rw (even-is p) (sym halved ∙ e))))
-      (over (2 - k) (twice op * limit (unitOf f) op x) half-level (2 * n + 1) (rw (← even-is p) (omega (arith, kept-high))))
+      says-place _ _ _ _ below (
+        less (suc (2 - k)) (limit (unitOf f) op x) refl n (rw (halved, ← even-is p) kept-low)
+            (λ e. sticky r (rw (even-is p) (sym halved ∙ e))),
+        over (2 - k) (twice op * limit (unitOf f) op x) half-level (2 * n + 1) (rw (← even-is p) (omega (arith, kept-high))),
+      )
   place-is true false p r =
       let s = not-sticky r in
-      place-half _ _ _ _
-      (strictly (suc (2 - k)) (limit (unitOf f) op x) refl n (odd-under p))
-      (same (2 - k) (twice op * limit (unitOf f) op x) half-level (2 * n + 1) (rw (← odd-is p) (s .0)) (s .1))
+      says-place _ _ _ _ half (
+        strictly (suc (2 - k)) (limit (unitOf f) op x) refl n (odd-under p),
+        same (2 - k) (twice op * limit (unitOf f) op x) half-level (2 * n + 1) (rw (← odd-is p) (s .0)) (s .1),
+      )
   place-is true true p r =
-      place-above _ _ _ _
-      (strictly (suc (2 - k)) (limit (unitOf f) op x) refl n (odd-under p))
-      (less (2 - k) (twice op * limit (unitOf f) op x) half-level (2 * n + 1) (rw (← odd-is p) kept-low) (λ e. sticky r (rw (odd-is p) e)))
+      says-place _ _ _ _ above (
+        strictly (suc (2 - k)) (limit (unitOf f) op x) refl n (odd-under p),
+        less (2 - k) (twice op * limit (unitOf f) op x) half-level (2 * n + 1) (rw (← odd-is p) kept-low) (λ e. sticky r (rw (odd-is p) e)),
+      )
 
   -- the pattern is at or below the exact result, and the next significand above it
   n-bounds : (2 * n ≤ kept k q) × (kept k q ≤ 2 * n + 1)
@@ -228,7 +226,7 @@ module _ (f : Format) (op : Op) (x q : ℕ) (more : Bool) (k : ℕ) (pos : 0 < x
       (λ h.
       let sum : n * 2 ^ (k - 2) + suc n * 2 ^ (k - 2) ≡ (2 * n + 1) * 2 ^ (k - 2) = omega arith in
       rw (magnitude-is, next-is h, sum) (place-is (guardBit k q) (stickyBit k q more) refl refl))
-      (λ h. rw (top-guard h, top-sticky h) (place-exact _ _ _ _ (ap (side op x) magnitude-is ∙ top-meets h)))
+      (λ h. rw (top-guard h, top-sticky h) (says-place _ _ _ _ exact (ap (side op x) magnitude-is ∙ top-meets h)))
 
   -- where it is not, infinity's number is reached,
   module _ (some : 0 < infinity f) (h : infinity f ≤ t) where
@@ -256,11 +254,13 @@ module _ (f : Format) (op : Op) (x q : ℕ) (more : Bool) (k : ℕ) (pos : 0 < x
     unfolding placeAt
     beyond-place =
         rw suc-last
-        (place-above _ _ _ _ (lt-of-lt-of-le (side-rising< op x pos last-rising) reached-infinity)
-        (lt-of-lt-of-le
-        (side-rising< op x {v = magnitudeOf f (infinity f - 1) + magnitudeOf f (infinity f)} {w = 2 * magnitudeOf f (infinity f)} pos (omega (arith, last-rising)))
-        (subst (λ (l : ℕ). l ≤ twice op * limit (unitOf f) op x) (sym (side-double op x (magnitudeOf f (infinity f))))
-        (mul-le-mul-left (twice op) reached-infinity))))
+        (says-place _ _ _ _ above (
+          lt-of-lt-of-le (side-rising< op x pos last-rising) reached-infinity,
+          lt-of-lt-of-le
+              (side-rising< op x {v = magnitudeOf f (infinity f - 1) + magnitudeOf f (infinity f)} {w = 2 * magnitudeOf f (infinity f)} pos (omega (arith, last-rising)))
+              (subst (λ (l : ℕ). l ≤ twice op * limit (unitOf f) op x) (sym (side-double op x (magnitudeOf f (infinity f))))
+              (mul-le-mul-left (twice op) reached-infinity)),
+        ))
 
   -- the law: a floor with a guard bit gives the pattern below the exact result, its place, and whether infinity's number is reached
   pub guarded-below : 0 < infinity f

@@ -15,7 +15,7 @@ use Rattle.kinds.specs.declared.Op.the-variants.{Reciprocal, Root, InverseRoot}
 use Rattle.numbers.proofs.Greatest.{Antitone, greatest-found, greatest-is}
 use Rattle.numbers.proofs.Squares.{square-rising}
 use Rattle.ieee.specs.Format.{Format, unitOf, signBit, infinity, scaled, magnitudeOf}
-use Rattle.ieee.specs.Rounded.{side, limit, fits, lowerOf}
+use Rattle.ieee.specs.Rounded.{side, limit, twice, fits, lowerOf}
 
 module _ (f : Format) where
   -- the magnitude of the exponent field e and the fraction x
@@ -116,6 +116,12 @@ pub side-zero : (op : Op) (x : ℕ) → side op x 0 ≡ 0
 side-zero Reciprocal x = omega arith
 side-zero Root x = refl
 side-zero InverseRoot x = omega arith
+
+-- at twice a number it is that for twice the exact result
+pub side-double : (op : Op) (x v : ℕ) → side op x (2 * v) ≡ twice op * side op x v
+side-double Reciprocal x v = omega arith
+side-double Root x v = omega arith
+side-double InverseRoot x v = omega arith
 
 module _ (f : Format) (op : Op) (x : ℕ) where
   -- a magnitude fits where its side is at most the limit

@@ -1,5 +1,6 @@
 -- What a rounding does with the two bits that say a place, and that its result is at most the next neighbour. Assumes nothing.
 use mathlib.Core.Path.{_≡_, refl}
+use mathlib.Core.Logic.{_⊎_, inl, inr, ⊎-elim}
 use mathlib.Core.Bool.{Bool, true, false, cond, not, _&&_, _||_}
 use Prim.Native.Nat.{ℕ, suc, _%_, _≤_}
 use native.Mathlib.Omega.{arith}
@@ -9,14 +10,19 @@ use Rattle.kinds.specs.declared.Mode.the-variants.{Nearest, Up, Down, To
 use Rattle.kinds.specs.Rounding.{Place, away, roundedBy}
 use Rattle.kinds.specs.Guard.{placeOf}
 
--- the result is at most the next neighbour
-pub next-most : (mode : Mode) (negative : Bool) (t : ℕ) (place : Place) → roundedBy mode negative t place ≤ suc t
+-- the result is the lower neighbour or the next
+pub taken-of : (mode : Mode) (negative : Bool) (t : ℕ) (place : Place)
+    → (roundedBy mode negative t place ≡ t) ⊎ (roundedBy mode negative t place ≡ suc t)
 unfolding roundedBy
-next-most mode negative t place = go (away mode negative (eqb (t % 2) 1) place)
+taken-of mode negative t place = go (away mode negative (eqb (t % 2) 1) place)
   where
-    go : (b : Bool) → cond b (suc t) t ≤ suc t
-    go true = omega arith
-    go false = omega arith
+    go : (b : Bool) → (cond b (suc t) t ≡ t) ⊎ (cond b (suc t) t ≡ suc t)
+    go true = inr refl
+    go false = inl refl
+
+-- so it is at most the next
+pub next-most : (mode : Mode) (negative : Bool) (t : ℕ) (place : Place) → roundedBy mode negative t place ≤ suc t
+next-most mode negative t place = ⊎-elim (λ e. omega arith) (λ e. omega arith) (taken-of mode negative t place)
 
 -- each rounding on the two bits
 module _ (negative odd : Bool) where

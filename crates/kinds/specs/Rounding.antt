@@ -1,5 +1,6 @@
 -- The four roundings, whose cases are those of `kinds::Mode`, their numbers, and which of two neighbours each takes. Assumes nothing.
-use Prim.Native.Nat.{ℕ, suc, _%_}
+use mathlib.Core.Path.{_≡_}
+use Prim.Native.Nat.{ℕ, suc, _%_, _<_}
 use mathlib.Core.Bool.{Bool, true, false, cond, not}
 use lib.Dec.{eqb, leb, ltb}
 use Rattle.kinds.specs.declared.Mode.{Mode}
@@ -41,6 +42,13 @@ placeBy low limit middle doubled =
     (cond (ltb middle doubled) above
     (cond (eqb middle doubled) half
     below))
+
+-- what a place says of those four numbers
+abbrev pub Says : Place → ℕ → ℕ → ℕ → ℕ → Type 0
+Says exact low limit middle doubled = low ≡ limit
+Says below low limit middle doubled = (low < limit) × (doubled < middle)
+Says half low limit middle doubled = (low < limit) × (middle ≡ doubled)
+Says above low limit middle doubled = (low < limit) × (middle < doubled)
 
 -- the lower neighbour t, or the next, as the rounding decides
 unfoldable pub roundedBy : Mode → Bool → ℕ → Place → ℕ
