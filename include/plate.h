@@ -7,6 +7,10 @@
      bits 32 to 39   the new status; 0 for the raw and the list call
      bits 40 to 47   the refusal, 0 if the call was accepted
      bits 48 to 63   0
+
+   An operation, a rounding, a parity and a status are bytes. C converts a wider
+   argument to a byte without a word: 257 becomes 1, and the call never sees
+   that it was something else. Check wider numbers before you pass them.
 */
 #ifndef PLATE_H
 #define PLATE_H
@@ -51,8 +55,9 @@ uint64_t plate_binary32(uint8_t operation, uint8_t rounding, uint8_t status,
 
 /* The cutter list of a map. The map is only read. After an accepted call the
    list stands at the front of the lent buffer and the bytes behind it are kept;
-   after a refusal the whole buffer is. Refusals: 2, 5 to 11. Neither pointer
-   may be null, even where its length is 0, and the two must not overlap. */
+   after a refusal the whole buffer is. Refusals: 2, 5 to 11. Each pointer spans
+   its length, and the two do not overlap. Neither may be null, even where its
+   length is 0: pass the address of any byte instead. */
 uint64_t plate_list(uint8_t rounding, const uint8_t *map, size_t map_length,
                     uint8_t *list, size_t list_length);
 
