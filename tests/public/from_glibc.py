@@ -111,7 +111,7 @@ NAMES = {"plus_zero": 0, "minus_zero": vectors.SIGN, "plus_infty": vectors.INFIN
          "qnan_value": 0x7FC00000, "snan_value": 0x7FA00000}
 NAMES.update({"-" + name: bits ^ vectors.SIGN for name, bits in NAMES.items()})
 
-EXCEPTIONS = {"INVALID_EXCEPTION": vectors.INVALID,
+EXCEPTIONS = {"INVALID_EXCEPTION": vectors.INVALID, "NO_INEXACT_EXCEPTION": 0,
               "DIVIDE_BY_ZERO_EXCEPTION": vectors.DIVISION_BY_ZERO}
 
 
@@ -123,8 +123,8 @@ def special_lines(path, operation):
         bits = NAMES.get(operands[-1])
         if bits is None or operation == RECIPROCAL and not 0 < NAMES[operands[0]] < vectors.INFINITY:
             continue
-        flags = flags.split("|")
-        raised = sum(EXCEPTIONS.get(flag, 0) for flag in flags)
+        flags = [flag for flag in flags.split("|") if not flag.startswith("ERRNO_")]
+        raised = sum(EXCEPTIONS[flag] for flag in flags)
         free = 0 if "NO_INEXACT_EXCEPTION" in flags else vectors.INEXACT
         for rounding in ROUNDINGS.values():
             yield operation, rounding, bits, free, NAMES[answer], raised

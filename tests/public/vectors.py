@@ -75,19 +75,20 @@ class Lines:
         """free are the flags that the source leaves open, flags those that it
         raises. Of two lines for a call the one with fewer free flags is kept."""
         call = operation, rounding, bits
-        kept = self.answers.get(call)
-        if kept and kept[1] != answer:
-            raise ValueError("two answers for %d %d %08X" % call)
-        if not kept or kept[0] & free == free != kept[0]:
-            self.answers[call] = free, answer, free | flags
+        if call in self.answers:
+            free_before, answer_before, flags_before = self.answers[call]
+            if answer != answer_before or (flags ^ flags_before) & ~(free | free_before):
+                raise ValueError("two answers for %d %d %08X" % call)
+            if free | free_before == free:
+                return
+        self.answers[call] = free, answer, flags
 
     def write(self, name, about):
         with open(HERE / name, "w") as file:
             for line in about:
                 file.write("# %s\n" % line)
-            for (operation, rounding, bits), (free, answer, status) in self.answers.items():
-                file.write("b %d %d %08X %d | 0 %08X %d\n" % (
-                    operation, rounding, bits, free, answer, status))
+            for call, (free, answer, flags) in self.answers.items():
+                file.write("b %d %d %08X %d | 0 %08X %d\n" % (*call, free, answer, free | flags))
         print("%s: %d lines" % (name, len(self.answers)))
 
 
