@@ -1,4 +1,4 @@
-//! The binary32 call beside the machine's division and root and libmpfr.
+//! The binary32 call beside the machine's division and root, SoftFloat and libmpfr.
 
 use std::hint::black_box;
 
@@ -28,6 +28,52 @@ fn unit(operation: u8, rounding: u8, operands: &[u32]) -> Side<'_> {
     })
 }
 
+/// What a line compares: the unit first, then the others that know the operation.
+fn sides(operation: u8, rounding: u8, operands: &[u32]) -> Vec<Side<'_>> {
+    let mut sides = vec![unit(operation, rounding, operands)];
+    if rounding == 0 {
+        sides.push(side("instruction", move || {
+            for &bits in operands {
+                black_box(instruction(operation, black_box(f32::from_bits(bits))));
+            }
+        }));
+    }
+    if operation < 3 {
+        sides.push(side("with flags", move || {
+            for &bits in operands {
+                black_box(match operation {
+                    1 => machine::reciprocal(rounding, bits),
+                    _ => machine::root(rounding, bits),
+                });
+            }
+        }));
+        #[cfg(feature = "softfloat")]
+        sides.push(crate::softfloat::whole(operation, rounding, operands));
+    }
+    #[cfg(feature = "mpfr")]
+    {
+        sides.push(crate::mpfr::alone(operation, rounding, operands));
+        sides.push(crate::mpfr::whole(operation, rounding, operands));
+    }
+    sides
+}
+
+fn heading() {
+    println!(
+        "binary32: ns a call, {COUNT} random normal operands, best of {ROUNDS} rounds; ratio is unit / other\n\
+         \x20 instruction: divss or sqrtss, nearest, flags not read; for the inverse root both,\n\
+         \x20   rounded twice, which is not the same answer\n\
+         \x20 with flags: the same with MXCSR set before and read after, as the call does"
+    );
+    #[cfg(feature = "softfloat")]
+    println!("\x20 softfloat: f32_div(1, x) or f32_sqrt(x), its rounding set before and its flags read after");
+    #[cfg(feature = "mpfr")]
+    println!(
+        "\x20 mpfr: libmpfr at 24 bits, exponents unbounded, the operation alone;\n\
+         \x20   mpfr f32: with the ways from and to f32"
+    );
+}
+
 pub fn run() {
     let mut chance = Chance(12);
     // Positive normal operands with normal results in all three operations.
@@ -36,44 +82,11 @@ pub fn run() {
     let any: Vec<u32> = (0..COUNT).map(|_| chance.next() as u32).collect();
     check(&normal);
 
-    println!(
-        "binary32: ns a call, {COUNT} random normal operands, best of {ROUNDS} rounds; ratio is unit / other\n\
-         \x20 instruction: divss or sqrtss, nearest, flags not read; for the inverse root both,\n\
-         \x20   rounded twice, which is not the same answer\n\
-         \x20 with flags: the same with MXCSR set before and read after, as the call does"
-    );
-    #[cfg(feature = "mpfr")]
-    println!(
-        "\x20 mpfr: libmpfr at 24 bits, exponents unbounded, the operation alone;\n\
-         \x20   mpfr f32: with the ways from and to f32"
-    );
+    heading();
     for operation in 1..=3 {
         for rounding in 0..4 {
             let name = format!("{}, {}", OPERATIONS[operation as usize], ROUNDINGS[rounding as usize]);
-            let mut sides = vec![unit(operation, rounding, &normal)];
-            if rounding == 0 {
-                sides.push(side("instruction", || {
-                    for &bits in &normal {
-                        black_box(instruction(operation, black_box(f32::from_bits(bits))));
-                    }
-                }));
-            }
-            if operation < 3 {
-                sides.push(side("with flags", || {
-                    for &bits in &normal {
-                        black_box(match operation {
-                            1 => machine::reciprocal(rounding, bits),
-                            _ => machine::root(rounding, bits),
-                        });
-                    }
-                }));
-            }
-            #[cfg(feature = "mpfr")]
-            {
-                sides.push(crate::mpfr::alone(operation, rounding, &normal));
-                sides.push(crate::mpfr::whole(operation, rounding, &normal));
-            }
-            compare(&name, COUNT, sides);
+            compare(&name, COUNT, sides(operation, rounding, &normal));
         }
     }
     for operation in 1..=3 {
@@ -100,6 +113,10 @@ fn check(operands: &[u32]) {
                         assert_eq!(given, (flags as u64) << 32 | answer as u64, "{}", about());
                     }
                     _ => {}
+                }
+                #[cfg(feature = "softfloat")]
+                if operation < 3 {
+                    assert_eq!(given, crate::softfloat::answer(operation, rounding, bits), "{}", about());
                 }
                 #[cfg(feature = "mpfr")]
                 assert_eq!(given as u32, crate::mpfr::answer(operation, rounding, bits), "{}", about());

@@ -3,6 +3,7 @@
 //!     cargo run --release                        all three parts
 //!     cargo run --release -- list                one of raw, binary32, list
 //!     cargo run --release --features mpfr        libmpfr in the binary32 part
+//!     cargo run --release --features softfloat   Berkeley SoftFloat in it
 //!
 //! All times are of one core, nanoseconds a call, the best of many rounds. Every
 //! answer goes through black_box, so no call is left out. Before it is timed, a
@@ -13,6 +14,8 @@ mod list;
 #[cfg(feature = "mpfr")]
 mod mpfr;
 mod raw;
+#[cfg(feature = "softfloat")]
+mod softfloat;
 mod timing;
 
 fn main() {

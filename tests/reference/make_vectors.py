@@ -10,7 +10,8 @@ call_vectors      stdin  r operation significand parity
                   stdout refusal answer
                   stdin  b operation rounding bits status
                   stdout refusal bits status
-                  bits are 8 upper-case hexadecimal digits
+                  bits are 8 upper-case hexadecimal digits; the lines of
+                  tests/public/*.txt stand last, with their published answers
 list_vectors      stdin  binary frames: u32 length of the map, u32 length of the
                   buffer, both little-endian, then the map
                   stdout refusal length digest, a line for each frame and each
@@ -28,11 +29,12 @@ from fractions import Fraction
 from pathlib import Path
 
 sys.dont_write_bytecode = True
-
-import plate
-
 HERE = Path(__file__).resolve().parent
 CRATES = HERE.parent.parent / "crates"
+sys.path.append(str(HERE.parent / "public"))
+
+import plate
+import vectors
 
 SMALLEST, LARGEST = 8388608, 16777215           # significands
 
@@ -169,14 +171,19 @@ def binary32_calls():
         yield 1, chance.randrange(4), chance.randrange(1, 0x00400000) | SIGN, status()
 
 
+CALL_ROOM = 262144              # what the program call_vectors reads at most
+
+
 def call_files():
     given, expected = [], []
     for call in raw_calls():
         given.append("r %d %d %d\n" % call)
         expected.append("%d %d\n" % plate.raw(*call))
-    for call in binary32_calls():
+    answered = [(call, plate.binary32(*call)) for call in binary32_calls()]
+    for call, answer in itertools.chain(answered, vectors.published()):
         given.append("b %d %d %08X %d\n" % call)
-        expected.append("%d %08X %d\n" % plate.binary32(*call))
+        expected.append("%d %08X %d\n" % answer)
+    assert sum(map(len, given)) <= CALL_ROOM
     return "".join(given).encode(), "".join(expected).encode()
 
 

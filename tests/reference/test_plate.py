@@ -1,7 +1,8 @@
 """Self-test of plate.py: python3 tests/reference/test_plate.py
 
 The expected values are typed from document 01. Where a check comes from
-elsewhere (IEEE 754, the machine's own arithmetic, counting) its comment says so.
+elsewhere (IEEE 754, the machine's own arithmetic, public vectors, counting) its
+comment says so.
 """
 
 import math
@@ -9,10 +10,13 @@ import random
 import struct
 import sys
 import unittest
+from pathlib import Path
 
 sys.dont_write_bytecode = True
+sys.path.append(str(Path(__file__).resolve().parent.parent / "public"))
 
 import plate
+import vectors
 from plate import DIVISION_BY_ZERO, DOWN, INEXACT, INVALID, INVERSE_ROOT
 from plate import NEAREST, OVERFLOW, RECIPROCAL, ROOT, TOWARD_ZERO, UNDERFLOW, UP
 
@@ -220,6 +224,16 @@ class SpecialOperands(unittest.TestCase):
                             (0x7F7FFFFF, INEXACT | UNDERFLOW)):
             for rounding in ROUNDINGS:
                 self.assertEqual(plate.binary32(RECIPROCAL, rounding, bits, 0)[2], flags)
+
+
+class Public(unittest.TestCase):
+    def test_published_answers(self):
+        # The answers of tests/public/*.txt, as their sources publish them.
+        count = 0
+        for call, answer in vectors.published():
+            self.assertEqual(plate.binary32(*call), answer, "%d %d %08X %d" % call)
+            count += 1
+        self.assertGreater(count, 0)
 
 
 class Samples(unittest.TestCase):

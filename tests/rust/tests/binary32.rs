@@ -204,7 +204,8 @@ fn pattern(m: u32, q: i32) -> Option<u32> {
     Some(((top + 126) << 23) as u32 + (m << (23 - m.ilog2())))
 }
 
-/// The file that the reference program in Python made, against both.
+/// The file of calls with the answers of the reference in Python, and the public
+/// vectors with theirs, against the library and the Rust reference.
 #[test]
 fn vector_file() {
     for (given, expected) in vectors::calls("b") {
