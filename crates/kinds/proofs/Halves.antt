@@ -8,13 +8,6 @@ use Rattle.kinds.specs.Rounding.{away, roundedBy}
 use Rattle.kinds.specs.Guard.{placeOf, restOf}
 
 module _ (t : ℕ) where
-  pub zero-stays : (negative a b : Bool) → roundedBy TowardZero negative t (placeOf a b) ≡ t
-  unfolding roundedBy away
-  zero-stays negative false false = refl
-  zero-stays negative false true = refl
-  zero-stays negative true false = refl
-  zero-stays negative true true = refl
-
   pub up-stays : (a b : Bool) → roundedBy Up true t (placeOf a b) ≡ t
   unfolding roundedBy away
   up-stays false false = refl

@@ -14,7 +14,8 @@ use Rattle.kinds.specs.declared.Mode.{Mode}
 use Rattle.kinds.specs.declared.Mode.the-variants.{Nearest, Up, Down, TowardZero}
 use Rattle.kinds.specs.Rounding.{roundedBy}
 use Rattle.kinds.specs.Guard.{placeOf, restOf}
-use Rattle.kinds.proofs.Halves.{zero-stays, up-stays, down-stays, down-as-up, up-exact, up-below, up-odd, nearest-even, nearest-above, nearest-half, nearest-rest, up-rest, down-rest, zero-rest}
+use Rattle.kinds.proofs.Ties.{toward-zero}
+use Rattle.kinds.proofs.Halves.{up-stays, down-stays, down-as-up, up-exact, up-below, up-odd, nearest-even, nearest-above, nearest-half, nearest-rest, up-rest, down-rest, zero-rest}
 use Rattle.cutter.specs.Offset.{roundedOver}
 use Rattle.cutter.specs.Limits.{radiusMost}
 use Rattle.offset.specs.Inverse.{InverseOf, ComponentRange, QuotientRange}
@@ -156,7 +157,7 @@ module _ (n q floor left start : ℕ) (pos : 0 < q) (doubled : DoubledOver n q f
   settled-at Up true = toward ∙ sym (up-stays (floor / 2) (eqb (floor % 2) 1) (not (eqb left 0)))
   settled-at Down false = toward ∙ sym (down-stays (floor / 2) (eqb (floor % 2) 1) (not (eqb left 0)))
   settled-at Down true = outward ∙ down-as-up (floor / 2) (eqb (floor % 2) 1) (not (eqb left 0))
-  settled-at TowardZero negative = toward ∙ sym (zero-stays (floor / 2) negative (eqb (floor % 2) 1) (not (eqb left 0)))
+  settled-at TowardZero negative = toward ∙ sym (toward-zero negative (floor / 2) (placeOf (eqb (floor % 2) 1) (not (eqb left 0))))
 
 -- the floor and what is left, which the code does not work out
 record Found (mode : Mode) (negative : Bool) (n q r : ℕ) : Type 0 where
