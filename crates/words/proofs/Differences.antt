@@ -146,6 +146,14 @@ pub signed-small : (u : ℕ) → u < 2147483648 → signed u ≡ pos u
 unfolding signed
 signed-small u h = simp (lt-ltb u 2147483648 h)
 
+-- the sign and the magnitude of a word's number, by its highest bit
+pub parts-low : (u : ℕ) → u < 2147483648 → record { negative = false; magnitude = u } ≡ partsOf (signed u)
+parts-low u h = parts-pos u ∙ ap partsOf (sym (signed-small u h))
+
+pub parts-high : (u : ℕ) → u < 4294967296 → 2147483648 ≤ u → record { negative = true; magnitude = 4294967296 - u } ≡ partsOf (signed u)
+unfolding signed
+parts-high u h k = parts-lt u 4294967296 h ∙ ap partsOf (sym (simp (le-ltb u 2147483648 k)))
+
 -- the words of a word's number with a difference added
 wrapped-by : (u a b : ℕ) → u < 4294967296 → a < 2147483648 → b < 2147483648
     → wordOf (signed u +ℤ subℕ a b) ≡ (u + a + 4294967296 - b) % 4294967296

@@ -81,6 +81,24 @@ pub struct Signed {
     pub magnitude: u64,
 }
 
+// The signed number that a word stands for.
+pub fn signed_of(word: u64) -> Signed
+    requires { ⌜ word < 4294967296 ⌝ }
+    ensures { λ r. ⌜ (r ≡ partsOf (signed word)) × (r .magnitude ≤ 2147483648) ⌝ }
+{
+    if word < 2147483648 {
+        Signed {
+            negative: false,
+            magnitude: word,
+        }
+    } else {
+        Signed {
+            negative: true,
+            magnitude: 4294967296 - word,
+        }
+    }
+}
+
 // a less b.
 pub fn difference(a: u64, b: u64) -> Signed
     ensures { λ r. ⌜ r ≡ partsOf (subℕ a b) ⌝ }

@@ -1,0 +1,25 @@
+-- `text::put_entry` meets its contract: the sign and the magnitude of a word's number. Assumes nothing.
+use Rattle.text.proofs.Lines.{word-put}
+use borrow.Author.Needs.{needs}
+use Rattle.text.proofs.put_entry.Statement.{statement}
+use Rattle.text.proofs.put_entry.Tie as tie
+
+word-at-requires : tie.Need-word-at-requires
+word-at-requires c κs = search needs
+
+signed-of-requires : tie.Need-signed-of-requires
+signed-of-requires c κs = search needs
+
+put-number-requires : tie.Need-put-number-requires
+put-number-requires c κs = search needs
+
+same-length : tie.Need-same-length
+same-length c = search needs
+
+returns : tie.Need-returns
+returns c = search word-put
+
+pub put-entry-spec : {M : Type 1} → statement M
+put-entry-spec =
+    tie.close
+    (tie.spec word-at-requires signed-of-requires put-number-requires same-length returns)

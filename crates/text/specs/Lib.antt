@@ -1,0 +1,4 @@
+pub mod Line
+pub mod Text
+pub mod Entries
+pub mod Call
