@@ -3,14 +3,14 @@ use mathlib.Core.Path.{_≡_, refl, sym, ap, _∙_}
 use mathlib.Core.Bool.{Bool, true, false, not, _&&_, true≢false}
 use mathlib.Core.List.{List}
 use Prim.Native.Nat.{ℕ, zero, suc, _+_, _-_, _*_, _≤_, _<_}
-use native.Mathlib.Nat.{not-suc-le-zero}
+use native.Mathlib.Nat.{mul-le-mul, not-suc-le-zero}
 use native.Mathlib.Omega.{arith}
-use borrow.Author.Tests.{not-true, not-false, leb-true, eqb-true, ne-eqb}
+use borrow.Author.Tests.{not-true, not-false, le-leb, leb-true, eqb-true, ne-eqb}
 use lib.Dec.{leb, eqb}
 use lib.ListN.{length}
 use lib.IntN.{natAbs}
 use Rattle.kinds.specs.Rounding.{isRounding, modeOf}
-use Rattle.kinds.proofs.Questions.{yes, sure, ask-yes, ask-no}
+use Rattle.kinds.proofs.Questions.{later, yes, sure, ask-yes, ask-no}
 use Rattle.words.specs.Word.{wordAt}
 use Rattle.words.specs.Signed.{signed}
 use Rattle.words.specs.Splice.{splice}
@@ -85,6 +85,30 @@ accepted-of m room e =
       heights = record { held = omega arith; small = heights-small m (w * d) (sure _ (a10 .0)) };
       held = leb-true (listLength m) room (sure _ (a11 .0));
     }
+
+-- a map has at most 62 × 62 inner points
+pub count-most : (w d : ℕ) → Sizes w d → countOf w d ≤ countOf sideMost sideMost
+count-most w d s =
+    let p : w - 2 ≤ sideMost - 2 = omega (arith, s .narrow) in
+    let q : d - 2 ≤ sideMost - 2 = omega (arith, s .shallow) in
+    mul-le-mul p q
+
+-- a buffer for a list of 62 × 62 records holds every list: question 11 is then never answered "no"
+pub always-room : (m : List ℕ) (room : ℕ) → 12 * countOf sideMost sideMost + lengthOf Cut1 ≤ room → mapRefusal m room ≡ 11 → ⊥
+unfolding mapRefusal listLength
+always-room m room h e =
+    let w : ℕ = widthOf m in
+    let d : ℕ = depthOf m in
+    let a5 = later (leb bytesLeast (length m)) 5 _ 11 (λ z. omega arith) e in
+    let a6 = later (endsIn Plt1 m) 6 _ 11 (λ z. omega arith) (a5 .1) in
+    let a7 = later (isSized w d) 7 _ 11 (λ z. omega arith) (a6 .1) in
+    let a8 = later (isStepped (stepOf m) (radiusOf m)) 8 _ 11 (λ z. omega arith) (a7 .1) in
+    let a9 = later (isLong (distanceOf m) (length m) (w * d)) 9 _ 11 (λ z. omega arith) (a8 .1) in
+    let a10 = later (heightsWithin m (w * d)) 10 _ 11 (λ z. omega arith) (a9 .1) in
+    let most = count-most w d (sizes-are w d (sure _ (a7 .0))) in
+    let room-is : hasRoom m room ≡ true = le-leb (12 * countOf w d + lengthOf Cut1) room (omega (arith, most)) in
+    let zero-is : _≡_ {A = ℕ} 0 11 = ask-yes (hasRoom m room) 11 0 0 room-is refl ∙ a10 .1 in
+    omega arith
 
 -- what the code reads of an accepted map
 module _ (m : List ℕ) (room : ℕ) (z : mapRefusal m room ≡ 0) where

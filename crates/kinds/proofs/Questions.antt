@@ -11,11 +11,15 @@ use Rattle.kinds.specs.declared.Mode.the-variants.{Nearest, Up, Down, To
 use Rattle.kinds.specs.Rounding.{modeOf}
 use Rattle.kinds.specs.Question.{ask}
 
--- a question that did not give its number was answered yes
-pub yes : (t : Bool) (n rest : ℕ) → ask t (suc n) rest ≡ 0 → T t × (rest ≡ 0)
+-- a number that is not the question's own came from a later one, and the question was answered yes
+pub later : (t : Bool) (n rest k : ℕ) → (n ≡ k → ⊥) → ask t n rest ≡ k → T t × (rest ≡ k)
 unfolding ask
-yes true n rest e = (tt, e)
-yes false n rest e = absurd (omega arith)
+later true n rest k h e = (tt, e)
+later false n rest k h e = absurd (h e)
+
+-- so it is where no question gave its number
+pub yes : (t : Bool) (n rest : ℕ) → ask t (suc n) rest ≡ 0 → T t × (rest ≡ 0)
+yes t n rest e = later t (suc n) rest 0 (λ z. omega arith) e
 
 -- one that was answered yes gives what the later ones give,
 pub asked : (t : Bool) (n rest : ℕ) → T t → ask t n rest ≡ rest

@@ -17,6 +17,7 @@ use Rattle.words.specs.Joined.{joined}
 use Rattle.words.specs.Splice.{splice}
 use Rattle.words.specs.declared.Signed.{Signed}
 use Rattle.words.proofs.Differences.{negative-is, magnitude-is}
+use Rattle.cutter.specs.Agree.{entryAt}
 use Rattle.decimal.specs.Digits.{decimal, sign, signedDecimal}
 use Rattle.decimal.specs.Put.{PutAt}
 use Rattle.decimal.proofs.Putting.{put-behind, none-put}
@@ -36,10 +37,10 @@ module _ (at b : ℕ) (l : List ℕ) (end : ℕ) (l₁ : List ℕ) where
   pub whole-put : (x : ℕ) → PutAt at 12 (sign false ++ decimal x ++ b ∷ []) l end l₁ → PutAt at 12 (followed (pos x) b) l end l₁
   whole-put x p = parts-put false x (pos x) refl refl p
 
-  pub word-put : (list : List ℕ) (from word : ℕ) (s : Signed) → word ≡ wordAt list from → s ≡ partsOf (signed word)
-      → PutAt at 12 (sign (s .negative) ++ decimal (s .magnitude) ++ b ∷ []) l end l₁ → PutAt at 12 (followed (signed (wordAt list from)) b) l end l₁
-  word-put list from word s e f p =
-      let z : ℤ = signed (wordAt list from) in
+  pub entry-put : (list : List ℕ) (n j word : ℕ) (s : Signed) → word ≡ wordAt list (12 * n + 4 * j) → s ≡ partsOf (signed word)
+      → PutAt at 12 (sign (s .negative) ++ decimal (s .magnitude) ++ b ∷ []) l end l₁ → PutAt at 12 (followed (entryAt list n j) b) l end l₁
+  entry-put list n j word s e f p =
+      let z : ℤ = entryAt list n j in
       let g : s ≡ partsOf z = f ∙ ap (λ (u : ℕ). partsOf (signed u)) e in
       parts-put (s .negative) (s .magnitude) z (negative-is s z g) (magnitude-is s z g) p
 
@@ -103,40 +104,36 @@ refused-put number l l₁ l₂ end l₃ h e s e₂ s₂ p =
 
 -- ---- the records of a list
 
+-- columns and rows are no larger than the record's number
+module _ (n columns : ℕ) (few : n < 1000000000) where
+  pub column-small : n % columns + 1 < 10000000000
+  column-small = omega (arith, mod-le n columns)
+
+  pub row-small : n / columns + 1 < 10000000000
+  row-small = omega (arith, div-le-self n columns)
+
+  pub column-fits : Fits w64 (n % columns + 1)
+  column-fits = omega (arith, column-small)
+
+  pub row-fits : Fits w64 (n / columns + 1)
+  row-fits = omega (arith, row-small)
+
 module _ (list : List ℕ) (columns : ℕ) where
-  entry-line : (n : ℕ)
-      → line (pos (n % columns + 1) ∷ pos (n / columns + 1) ∷ signed (wordAt list (12 * n)) ∷ signed (wordAt list (12 * n + 4)) ∷ signed (wordAt list (12 * n + 8)) ∷ [])
-      ≡ entryLine list columns n
+  pub record-put : (at n : ℕ) (l : List ℕ) (p : ℕ) (l₁ : List ℕ) (q : ℕ) (l₂ : List ℕ) (r : ℕ) (l₃ : List ℕ) (s : ℕ) (l₄ : List ℕ) (end : ℕ) (l₅ : List ℕ)
+      → at + 60 ≤ length l → PutAt at 12 (followed (pos (n % columns + 1)) blank) l p l₁ → PutAt p 12 (followed (pos (n / columns + 1)) blank) l₁ q l₂
+      → PutAt q 12 (followed (entryAt list n 0) blank) l₂ r l₃ → PutAt r 12 (followed (entryAt list n 1) blank) l₃ s l₄
+      → PutAt s 12 (followed (entryAt list n 2) newline) l₄ end l₅ → PutAt at 60 (entryLine list columns n) l end l₅
   unfolding entryLine
-  entry-line n =
-      ap
-      (λ (from : ℕ). line (pos (n % columns + 1) ∷ pos (n / columns + 1) ∷ signed (wordAt list from) ∷ signed (wordAt list (12 * n + 4)) ∷ signed (wordAt list (12 * n + 8)) ∷ []))
-      (sym (add-zero (12 * n)))
+  record-put at n l p l₁ q l₂ r l₃ s l₄ end l₅ h a b c d e =
+      five-put at (pos (n % columns + 1)) (pos (n / columns + 1)) (entryAt list n 0) (entryAt list n 1) (entryAt list n 2) l p l₁ q l₂ r l₃ s l₄ end l₅ h a b c d e
 
-  pub entries-more : (start count n : ℕ) (l : List ℕ) (p : ℕ) (l₁ : List ℕ) (end : ℕ) (l₂ : List ℕ) → start + 60 * count ≤ length l → n < count
-      → PutAt start (60 * n) (joined (entryLine list columns) n) l p l₁
-      → PutAt p 60
-      (line (pos (n % columns + 1) ∷ pos (n / columns + 1) ∷ signed (wordAt list (12 * n)) ∷ signed (wordAt list (12 * n + 4)) ∷ signed (wordAt list (12 * n + 8)) ∷ []))
-      l₁ end l₂
+  pub records-more : (start count n : ℕ) (l : List ℕ) (p : ℕ) (l₁ : List ℕ) (end : ℕ) (l₂ : List ℕ) → start + 60 * count ≤ length l → n < count
+      → PutAt start (60 * n) (joined (entryLine list columns) n) l p l₁ → PutAt p 60 (entryLine list columns n) l₁ end l₂
       → PutAt start (60 * (n + 1)) (joined (entryLine list columns) (n + 1)) l end l₂
-  entries-more start count n l p l₁ end l₂ h k a b =
-      lines-more (entryLine list columns) 60 start n l p l₁ end l₂ (omega arith) a (rw (entry-line n) at b)
+  records-more start count n l p l₁ end l₂ h k a b = lines-more (entryLine list columns) 60 start n l p l₁ end l₂ (omega arith) a b
 
-  pub entries-put : (start count n : ℕ) (l : List ℕ) (end : ℕ) (l₁ : List ℕ) → n ≤ count → count ≤ n
+  pub records-put : (start count n : ℕ) (l : List ℕ) (end : ℕ) (l₁ : List ℕ) → n ≤ count → count ≤ n
       → PutAt start (60 * n) (joined (entryLine list columns) n) l end l₁ → PutAt start (60 * count) (joined (entryLine list columns) count) l end l₁
-  entries-put start count n l end l₁ h k p =
+  records-put start count n l end l₁ h k p =
       let e : n ≡ count = omega arith in
       rw e at p
-
-  -- columns and rows are no larger than the record's number
-  pub column-fits : (n count : ℕ) → n < count → count < 1000000000 → Fits w64 (n % columns + 1)
-  column-fits n count h k = omega (arith, mod-le n columns)
-
-  pub row-fits : (n count : ℕ) → n < count → count < 1000000000 → Fits w64 (n / columns + 1)
-  row-fits n count h k = omega (arith, div-le-self n columns)
-
-  pub column-small : (n count : ℕ) → n < count → count < 1000000000 → n % columns + 1 < 10000000000
-  column-small n count h k = omega (arith, mod-le n columns)
-
-  pub row-small : (n count : ℕ) → n < count → count < 1000000000 → n / columns + 1 < 10000000000
-  row-small n count h k = omega (arith, div-le-self n columns)

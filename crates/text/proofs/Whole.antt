@@ -3,15 +3,18 @@ use mathlib.Core.Path.{_≡_, refl, sym, ap, ap₂, _∙_}
 use mathlib.Core.List.{List, [], _∷_, _++_}
 use mathlib.Core.Bool.{true, false, cond}
 use Prim.Native.Nat.{ℕ, suc, _+_, _-_, _*_, _≤_, _<_}
-use native.Mathlib.Nat.{zero-add, mul-le-mul}
+use native.Mathlib.Nat.{zero-add}
 use native.Mathlib.Omega.{arith}
 use borrow.Author.Tests.{lt-ltb, le-ltb, ne-eqb, eq-eqb}
-use lib.Dec.{ltb, lit<}
+use lib.Dec.{ltb, lit<, lit≤}
 use lib.ListN.{length}
 use lib.IntN.{pos}
 use Rattle.kinds.specs.declared.Mode.the-variants.{Nearest}
+use Rattle.kinds.specs.Rounding.{isRounding}
+use Rattle.kinds.proofs.Questions.{later}
 use Rattle.words.specs.Joined.{joined}
 use Rattle.words.specs.Splice.{splice}
+use Rattle.words.proofs.Differences.{either}
 use Rattle.words.proofs.Runs.{joined-same}
 use Rattle.trailer.specs.Kinds.{lengthOf}
 use Rattle.trailer.specs.declared.Kind.the-variants.{Plt1}
@@ -23,7 +26,7 @@ use Rattle.cutter.specs.Agree.{entryAt}
 use Rattle.cutter.specs.Call.{mapRefusal, listRefusal, bufferAfter}
 use Rattle.cutter.specs.Held.{ListHeld}
 use Rattle.cutter.specs.Accepted.{Sizes}
-use Rattle.cutter.proofs.Accepted.{map-asked, trailer-fits, sizes-of, held-of}
+use Rattle.cutter.proofs.Accepted.{count-most, always-room, map-asked, trailer-fits, sizes-of, held-of}
 use Rattle.cutter.proofs.Entries.{list-held}
 use Rattle.plate.specs.declared.ListReply.{ListReply}
 use Rattle.plate.specs.List.{ListCall}
@@ -35,12 +38,6 @@ use Rattle.text.specs.Entries.{entryLine}
 use Rattle.text.specs.Call.{TextCall}
 
 -- ---- the sizes, and the records behind them
-
-count-most : (w d : ℕ) → Sizes w d → countOf w d ≤ 3844
-count-most w d s =
-    let p : w - 2 ≤ 62 = omega (arith, s .narrow) in
-    let q : d - 2 ≤ 62 = omega (arith, s .shallow) in
-    mul-le-mul p q
 
 module _ (w d : ℕ) (s : Sizes w d) where
   pub some-columns : 0 < w - 2
@@ -59,6 +56,19 @@ module _ (w d : ℕ) (s : Sizes w d) where
         (put-behind 0 48 (60 * countOf w d) end r b a l l₁ l₂ (omega (arith, count-most w d s)) p q)
 
 -- ---- what is printed
+
+-- input that is too long is refused with 9, whatever its bytes are
+pub nine : (m : List ℕ) → mapMost < length m → platelistText m ≡ refusedText 9
+unfolding platelistText textRefusal
+nine m h = rw (lt-ltb mapMost (length m) h)
+
+-- the buffer for the list is never too short
+pub no-eleven : (m : List ℕ) → textRefusal m ≡ 11 → ⊥
+unfolding textRefusal listRefusal
+no-eleven m e =
+    either mapMost (length m)
+    (λ h. always-room m listMost (lit≤ tt) (later (isRounding 0) 2 _ 11 (λ z. omega arith) (rw (le-ltb mapMost (length m) h) at e) .1))
+    (λ h. omega (arith, rw (lt-ltb mapMost (length m) h) at e))
 
 module _ (m list out : List ℕ) (room : textMost ≤ length out) where
   -- what was put, as the call says it
@@ -80,8 +90,7 @@ module _ (m list out : List ℕ) (room : textMost ≤ length out) where
   pub too-long : (r : ℕ) (out₁ : List ℕ) → mapMost < length m → PutAt 0 20 (refusedText 9) out r out₁ → TextCall m list out r list out₁
   unfolding textRefusal
   too-long r out₁ h p =
-      let t : ltb mapMost (length m) ≡ true = lt-ltb mapMost (length m) h in
-      text-call (refusedText 9) 20 r list out₁ (omega arith) (refused-text 9 (rw t) (λ z. omega arith)) p (rw t)
+      text-call (refusedText 9) 20 r list out₁ (omega arith) (nine m h) p (rw (lt-ltb mapMost (length m) h))
 
   module _ (few : length m ≤ mapMost) (held : listMost ≡ length list) (reply : ListReply) (list₁ : List ℕ) (c : ListCall 0 m list reply list₁) where
     short : ltb mapMost (length m) ≡ false

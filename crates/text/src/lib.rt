@@ -4,13 +4,12 @@ ghost use mathlib.Core.List.{[], _∷_, _++_};
 ghost use Prim.Native.Nat.{_+_, _-_, _*_, _≤_, _<_};
 ghost use lib.ListN.{length};
 ghost use lib.IntN.{pos};
-ghost use Rattle.words.specs.Word.{wordAt};
-ghost use Rattle.words.specs.Signed.{signed};
 ghost use Rattle.words.specs.Joined.{joined};
 ghost use Rattle.trailer.specs.Kinds.{lengthOf};
 ghost use Rattle.trailer.specs.Bytes.{InRange};
 ghost use Rattle.trailer.specs.declared.Kind.the-variants.{Plt1};
 ghost use Rattle.cutter.specs.List.{countOf};
+ghost use Rattle.cutter.specs.Agree.{entryAt};
 ghost use Rattle.cutter.specs.Accepted.{Sizes};
 ghost use Rattle.decimal.specs.Put.{PutAt};
 ghost use Rattle.text.specs.Line.{followed, line};
@@ -95,30 +94,24 @@ fn put_records(out: &mut [u8], start: usize, list: &[u8], columns: usize, count:
     let mut at = start;
     let mut n: usize = 0;
     while n < count {
-        at = put_record(out, at, n % columns + 1, n / columns + 1, list, 12 * n);
+        at = put_record(out, at, list, columns, n);
         n += 1;
     }
     at
 }
 
-// Column, row, x, y and z.
-fn put_record(
-    out: &mut [u8],
-    at: usize,
-    column: usize,
-    row: usize,
-    list: &[u8],
-    from: usize,
-) -> usize
-    requires { ⌜ (at + 60 ≤ length (now out)) × (from + 12 ≤ length (now list)) ⌝ }
-    requires { ⌜ (column < 10000000000) × (row < 10000000000) ⌝ }
-    ensures { λ r. ⌜ PutAt at 60 (line (pos column ∷ pos row ∷ signed (wordAt (now (list .entry)) from) ∷ signed (wordAt (now (list .entry)) (from + 4)) ∷ signed (wordAt (now (list .entry)) (from + 8)) ∷ [])) (now (out .entry)) r (now (out .exit)) ⌝ }
+// Column, row, x, y and z of record n.
+fn put_record(out: &mut [u8], at: usize, list: &[u8], columns: usize, n: usize) -> usize
+    requires { ⌜ (0 < columns) × (n < 1000000000) ⌝ }
+    requires { ⌜ 12 * n + 12 ≤ length (now list) ⌝ }
+    requires { ⌜ at + 60 ≤ length (now out) ⌝ }
+    ensures { λ r. ⌜ PutAt at 60 (entryLine (now (list .entry)) columns n) (now (out .entry)) r (now (out .exit)) ⌝ }
 {
-    let place = put_whole(out, at, column as u64, b' ');
-    let centre = put_whole(out, place, row as u64, b' ');
-    let x = put_entry(out, centre, list, from, b' ');
-    let y = put_entry(out, x, list, from + 4, b' ');
-    put_entry(out, y, list, from + 8, b'\n')
+    let column = put_whole(out, at, (n % columns + 1) as u64, b' ');
+    let row = put_whole(out, column, (n / columns + 1) as u64, b' ');
+    let x = put_entry(out, row, list, n, 0, b' ');
+    let y = put_entry(out, x, list, n, 1, b' ');
+    put_entry(out, y, list, n, 2, b'\n')
 }
 
 fn put_whole(out: &mut [u8], at: usize, x: u64, behind: u8) -> usize
@@ -136,10 +129,12 @@ fn put_whole(out: &mut [u8], at: usize, x: u64, behind: u8) -> usize
     )
 }
 
-// The number that the word of a list stands for.
-fn put_entry(out: &mut [u8], at: usize, list: &[u8], from: usize, behind: u8) -> usize
-    requires { ⌜ (at + 12 ≤ length (now out)) × (from + 4 ≤ length (now list)) ⌝ }
-    ensures { λ r. ⌜ PutAt at 12 (followed (signed (wordAt (now (list .entry)) from)) behind) (now (out .entry)) r (now (out .exit)) ⌝ }
+// The x, y or z (j is 0, 1 or 2) of record n.
+fn put_entry(out: &mut [u8], at: usize, list: &[u8], n: usize, j: usize, behind: u8) -> usize
+    requires { ⌜ (n < 1000000000) × (j < 3) ⌝ }
+    requires { ⌜ 12 * n + 12 ≤ length (now list) ⌝ }
+    requires { ⌜ at + 12 ≤ length (now out) ⌝ }
+    ensures { λ r. ⌜ PutAt at 12 (followed (entryAt (now (list .entry)) n j) behind) (now (out .entry)) r (now (out .exit)) ⌝ }
 {
-    put_number(out, at, signed_of(word_at(list, from)), behind)
+    put_number(out, at, signed_of(word_at(list, 12 * n + 4 * j)), behind)
 }

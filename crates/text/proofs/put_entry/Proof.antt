@@ -1,8 +1,17 @@
 -- `text::put_entry` meets its contract: the sign and the magnitude of a word's number. Assumes nothing.
-use Rattle.text.proofs.Lines.{word-put}
+use Rattle.text.proofs.Lines.{entry-put}
 use borrow.Author.Needs.{needs}
 use Rattle.text.proofs.put_entry.Statement.{statement}
 use Rattle.text.proofs.put_entry.Tie as tie
+
+mul-word-at : tie.Need-mul-word-at
+mul-word-at c = search needs
+
+mul-word-at-2 : tie.Need-mul-word-at-2
+mul-word-at-2 c = search needs
+
+add-word-at : tie.Need-add-word-at
+add-word-at c = search needs
 
 word-at-requires : tie.Need-word-at-requires
 word-at-requires c κs = search needs
@@ -17,9 +26,17 @@ same-length : tie.Need-same-length
 same-length c = search needs
 
 returns : tie.Need-returns
-returns c = search word-put
+returns c = search entry-put
 
 pub put-entry-spec : {M : Type 1} → statement M
 put-entry-spec =
     tie.close
-    (tie.spec word-at-requires signed-of-requires put-number-requires same-length returns)
+    (tie.spec
+    mul-word-at
+    mul-word-at-2
+    add-word-at
+    word-at-requires
+    signed-of-requires
+    put-number-requires
+    same-length
+    returns)

@@ -4,7 +4,7 @@ use borrow.Author.Needs.{needs}
 use Rattle.words.specs.Joined.{joined}
 use Rattle.decimal.specs.Put.{PutAt}
 use Rattle.text.specs.Entries.{entryLine}
-use Rattle.text.proofs.Lines.{lines-none, entries-more, entries-put, column-fits, row-fits, column-small, row-small}
+use Rattle.text.proofs.Lines.{lines-none, records-more, records-put}
 use Rattle.text.proofs.put_records.Statement.{statement}
 use Rattle.text.proofs.put_records.Tie as tie
 
@@ -18,23 +18,8 @@ abbrev μ-loop : tie.MeasureT-loop
 loop-holds : tie.Need-loop-holds Inv-loop μ-loop
 loop-holds c = (search needs, search lines-none)
 
-rem-put-record : tie.Need-rem-put-record Inv-loop μ-loop
-rem-put-record c = search needs
-
-add-put-record : tie.Need-add-put-record Inv-loop μ-loop
-add-put-record c = search column-fits
-
-div-put-record : tie.Need-div-put-record Inv-loop μ-loop
-div-put-record c = search needs
-
-add-put-record-2 : tie.Need-add-put-record-2 Inv-loop μ-loop
-add-put-record-2 c = search row-fits
-
-mul-put-record : tie.Need-mul-put-record Inv-loop μ-loop
-mul-put-record c = search needs
-
 put-record-requires : tie.Need-put-record-requires Inv-loop μ-loop
-put-record-requires c κs = ((search needs, search needs), (search column-small, search row-small))
+put-record-requires c κs = search needs
 
 add-n : tie.Need-add-n Inv-loop μ-loop
 add-n c = search needs
@@ -43,13 +28,13 @@ loop-less : tie.Need-loop-less Inv-loop μ-loop
 loop-less c = search needs
 
 loop-again : tie.Need-loop-again Inv-loop μ-loop
-loop-again c = (search needs, search entries-more)
+loop-again c = (search needs, search records-more)
 
 same-length : tie.Need-same-length Inv-loop μ-loop
 same-length c = search needs
 
 returns : tie.Need-returns Inv-loop μ-loop
-returns c = search entries-put
+returns c = search records-put
 
 pub put-records-spec : {M : Type 1} → statement M
 put-records-spec =
@@ -58,11 +43,6 @@ put-records-spec =
     Inv-loop
     μ-loop
     loop-holds
-    rem-put-record
-    add-put-record
-    div-put-record
-    add-put-record-2
-    mul-put-record
     put-record-requires
     add-n
     loop-less
