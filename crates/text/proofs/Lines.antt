@@ -104,18 +104,18 @@ refused-put number l l₁ l₂ end l₃ h e s e₂ s₂ p =
 
 -- ---- the records of a list
 
--- columns and rows are no larger than the record's number
-module _ (n columns : ℕ) (few : n < 1000000000) where
-  pub column-small : n % columns + 1 < 10000000000
+-- columns and rows are not much larger than the record's number
+module _ (n columns c : ℕ) (few : n < 1000000000) (small : c < 10) where
+  pub column-small : n % columns + c < 10000000000
   column-small = omega (arith, mod-le n columns)
 
-  pub row-small : n / columns + 1 < 10000000000
+  pub row-small : n / columns + c < 10000000000
   row-small = omega (arith, div-le-self n columns)
 
-  pub column-fits : Fits w64 (n % columns + 1)
+  pub column-fits : Fits w64 (n % columns + c)
   column-fits = omega (arith, column-small)
 
-  pub row-fits : Fits w64 (n / columns + 1)
+  pub row-fits : Fits w64 (n / columns + c)
   row-fits = omega (arith, row-small)
 
 module _ (list : List ℕ) (columns : ℕ) where

@@ -16,7 +16,7 @@ slice-write-out : tie.Need-slice-write-out
 slice-write-out c = search end-inside
 
 add-result : tie.Need-add-result
-add-result c = search end-fits
+add-result c = search (needs, end-fits)
 
 same-length : tie.Need-same-length
 same-length c = simp length-set (omega arith)

@@ -8,19 +8,19 @@ rem-put-whole : tie.Need-rem-put-whole
 rem-put-whole c = search needs
 
 add-put-whole : tie.Need-add-put-whole
-add-put-whole c = search column-fits
+add-put-whole c = search (needs, column-fits, row-fits)
 
 put-whole-requires : tie.Need-put-whole-requires
-put-whole-requires c κs = (search needs, search column-small)
+put-whole-requires c κs = (search needs, search (needs, column-small, row-small))
 
 div-put-whole : tie.Need-div-put-whole
 div-put-whole c = search needs
 
 add-put-whole-2 : tie.Need-add-put-whole-2
-add-put-whole-2 c = search row-fits
+add-put-whole-2 c = search (needs, column-fits, row-fits)
 
 put-whole-requires-2 : tie.Need-put-whole-requires-2
-put-whole-requires-2 c κs = (search needs, search row-small)
+put-whole-requires-2 c κs = (search needs, search (needs, column-small, row-small))
 
 put-entry-requires : tie.Need-put-entry-requires
 put-entry-requires c κs = search needs
