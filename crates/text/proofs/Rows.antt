@@ -1,8 +1,7 @@
--- Document 01's example of what is printed, whole, and three refusals. Assumes nothing.
+-- Document 01's example of what is printed, whole, and what empty input prints. Assumes nothing.
 use mathlib.Core.Path.{_≡_, refl}
 use mathlib.Core.List.{List, [], _∷_, _++_}
 use Prim.Native.Nat.{ℕ}
-use lib.ListN.{replicate}
 use Rattle.kinds.specs.Question.{ask}
 use Rattle.kinds.specs.Rounding.{away, placeBy, roundedBy}
 use Rattle.numbers.specs.Greatest.{greatest, greatestFrom}
@@ -31,3 +30,8 @@ pub example : platelistText (row ++ row ++ row ++ trailer)
     ≡ 51 ∷ 32 ∷ 51 ∷ 32 ∷ 50 ∷ 48 ∷ 48 ∷ 48 ∷ 32 ∷ 53 ∷ 48 ∷ 48 ∷ 48 ∷ 10 ∷ 49 ∷ 32 ∷ 49 ∷ 32 ∷ 45 ∷ 49 ∷ 48 ∷ 48 ∷ 48 ∷ 32 ∷ 50 ∷ 48 ∷ 48 ∷ 48 ∷ 32 ∷ 53 ∷ 53 ∷ 48 ∷ 48 ∷ 10 ∷ []
 unfolding platelistText textRefusal listText sizesLine line signedDecimal decimal digitsWithin listRefusal mapRefusal ask endsIn lastFields fieldsAt heightsWithin listLength signed joined centreAt centreOf pointAt heightAt dxAt dyAt offsetOf roundedOver placeOver floorOver withSign away placeBy roundedBy greatest greatestFrom
 example = refl
+
+-- "refused 5" and a newline
+pub empty : platelistText [] ≡ 114 ∷ 101 ∷ 102 ∷ 117 ∷ 115 ∷ 101 ∷ 100 ∷ 32 ∷ 53 ∷ 10 ∷ []
+unfolding platelistText textRefusal refusedText line signedDecimal decimal digitsWithin listRefusal mapRefusal ask
+empty = refl

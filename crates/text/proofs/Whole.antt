@@ -1,11 +1,11 @@
 -- The whole text: of input that is too long, of a refused map, and of a list. Assumes nothing.
-use mathlib.Core.Path.{_≡_, refl, sym, ap, ap₂, _∙_}
+use mathlib.Core.Path.{_≡_, sym, ap, _∙_}
 use mathlib.Core.List.{List, [], _∷_, _++_}
-use mathlib.Core.Bool.{true, false, cond}
-use Prim.Native.Nat.{ℕ, suc, _+_, _-_, _*_, _≤_, _<_}
+use mathlib.Core.Bool.{false, cond}
+use Prim.Native.Nat.{ℕ, _+_, _-_, _*_, _≤_, _<_}
 use native.Mathlib.Nat.{zero-add}
 use native.Mathlib.Omega.{arith}
-use borrow.Author.Tests.{lt-ltb, le-ltb, ne-eqb, eq-eqb}
+use borrow.Author.Tests.{lt-ltb, le-ltb, ne-eqb}
 use lib.Dec.{ltb, lit<, lit≤}
 use lib.ListN.{length}
 use lib.IntN.{pos}
@@ -24,7 +24,6 @@ use Rattle.cutter.specs.Centre.{coordinate}
 use Rattle.cutter.specs.List.{countOf, columnOf, rowOf, centreAt}
 use Rattle.cutter.specs.Agree.{entryAt}
 use Rattle.cutter.specs.Call.{mapRefusal, listRefusal, bufferAfter}
-use Rattle.cutter.specs.Held.{ListHeld}
 use Rattle.cutter.specs.Accepted.{Sizes}
 use Rattle.cutter.proofs.Accepted.{count-most, always-room, map-asked, trailer-fits, sizes-of, held-of}
 use Rattle.cutter.proofs.Entries.{list-held}

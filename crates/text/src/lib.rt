@@ -5,7 +5,6 @@ ghost use Prim.Native.Nat.{_+_, _-_, _*_, _≤_, _<_};
 ghost use lib.ListN.{length};
 ghost use lib.IntN.{pos};
 ghost use Rattle.words.specs.Joined.{joined};
-ghost use Rattle.trailer.specs.Kinds.{lengthOf};
 ghost use Rattle.trailer.specs.Bytes.{InRange};
 ghost use Rattle.trailer.specs.declared.Kind.the-variants.{Plt1};
 ghost use Rattle.cutter.specs.List.{countOf};
