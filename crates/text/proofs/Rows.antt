@@ -14,7 +14,7 @@ use Rattle.cutter.specs.Centre.{pointAt, centreOf}
 use Rattle.cutter.specs.List.{centreAt, listLength}
 use Rattle.cutter.specs.Call.{heightsWithin, mapRefusal, listRefusal}
 use Rattle.decimal.specs.Digits.{digitsWithin, decimal, signedDecimal}
-use Rattle.text.specs.Line.{line}
+use Rattle.printing.specs.Line.{line}
 use Rattle.text.specs.Text.{sizesLine, listText, refusedText, textRefusal, platelistText}
 
 -- a row of heights 0, 1,500 and 3,000

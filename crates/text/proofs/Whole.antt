@@ -1,5 +1,5 @@
 -- The whole text: of input that is too long, of a refused map, and of a list. Assumes nothing.
-use mathlib.Core.Path.{_≡_, sym, ap, _∙_}
+use mathlib.Core.Path.{_≡_, refl, sym, ap, _∙_}
 use mathlib.Core.List.{List, [], _∷_, _++_}
 use mathlib.Core.Bool.{false, cond}
 use Prim.Native.Nat.{ℕ, _+_, _-_, _*_, _≤_, _<_}
@@ -31,9 +31,10 @@ use Rattle.plate.specs.declared.ListReply.{ListReply}
 use Rattle.plate.specs.List.{ListCall}
 use Rattle.decimal.specs.Put.{PutAt}
 use Rattle.decimal.proofs.Putting.{put-behind, put-within}
-use Rattle.text.specs.Line.{line}
+use Rattle.printing.specs.Line.{newline, followed, line}
+use Rattle.printing.proofs.Lines.{line-last}
 use Rattle.text.specs.Text.{mapMost, listMost, textMost, sizesLine, recordLine, listText, refusedText, textRefusal, platelistText}
-use Rattle.text.specs.Entries.{entryLine}
+use Rattle.printing.specs.Entries.{entryLine}
 use Rattle.text.specs.Call.{TextCall}
 
 -- ---- the sizes, and the records behind them
@@ -53,6 +54,23 @@ module _ (w d : ℕ) (s : Sizes w d) where
     list-put a r l₂ q =
         put-within 0 (48 + 60 * countOf w d) textMost (b ++ a) l r l₂ (omega (arith, count-most w d s))
         (put-behind 0 48 (60 * countOf w d) end r b a l l₁ l₂ (omega (arith, count-most w d s)) p q)
+
+-- ---- a refusal
+
+-- bytes put, with the place behind them
+run-put : (at : ℕ) (b l l₁ : List ℕ) → l₁ ≡ splice at b l → length l₁ ≡ length l → PutAt at (length b) b l (at + length b) l₁
+run-put at b l l₁ e s = record { is = e; behind = refl; most = omega arith; same = s }
+
+pub refused-put : (number : ℕ) (l l₁ l₂ : List ℕ) (end : ℕ) (l₃ : List ℕ) → 20 ≤ length l
+    → l₁ ≡ splice 0 (114 ∷ 101 ∷ 102 ∷ 117 ∷ []) l → length l₁ ≡ length l → l₂ ≡ splice 4 (115 ∷ 101 ∷ 100 ∷ 32 ∷ []) l₁
+    → length l₂ ≡ length l₁ → PutAt 8 12 (followed (pos number) newline) l₂ end l₃ → PutAt 0 20 (refusedText number) l end l₃
+unfolding refusedText
+refused-put number l l₁ l₂ end l₃ h e s e₂ s₂ p =
+    put-behind 0 8 12 8 end (114 ∷ 101 ∷ 102 ∷ 117 ∷ 115 ∷ 101 ∷ 100 ∷ 32 ∷ []) (line (pos number ∷ [])) l l₂ l₃ h
+    (put-behind 0 4 4 4 8 (114 ∷ 101 ∷ 102 ∷ 117 ∷ []) (115 ∷ 101 ∷ 100 ∷ 32 ∷ []) l l₁ l₂ (omega arith)
+    (run-put 0 (114 ∷ 101 ∷ 102 ∷ 117 ∷ []) l l₁ e s)
+    (run-put 4 (115 ∷ 101 ∷ 100 ∷ 32 ∷ []) l₁ l₂ e₂ s₂))
+    (line-last 8 (pos number) l₂ end l₃ p)
 
 -- ---- what is printed
 

@@ -1,4 +1,2 @@
-pub mod Line
 pub mod Text
-pub mod Entries
 pub mod Call

@@ -11,7 +11,7 @@ use Rattle.cutter.specs.Map.{widthOf, depthOf, stepOf, radiusOf}
 use Rattle.cutter.specs.Centre.{Centre}
 use Rattle.cutter.specs.List.{countOf, columnOf, rowOf, centreAt}
 use Rattle.cutter.specs.Call.{listRefusal}
-use Rattle.text.specs.Line.{line}
+use Rattle.printing.specs.Line.{line}
 
 -- the longest map has 16,400 bytes, and the longest list 46,144
 abbrev pub mapMost : ℕ

@@ -1,5 +1,5 @@
 -- `text::put_refused` meets its contract: the word in two halves, and the number. Assumes nothing.
-use Rattle.text.proofs.Lines.{refused-put}
+use Rattle.text.proofs.Whole.{refused-put}
 use borrow.Author.Needs.{needs}
 use Rattle.text.proofs.put_refused.Statement.{statement}
 use Rattle.text.proofs.put_refused.Tie as tie

@@ -1,8 +1,8 @@
--- `text::put_whole` meets its contract: a number without a sign. Assumes nothing.
-use Rattle.text.proofs.Lines.{whole-put}
+-- `printing::put_whole` meets its contract: a number without a sign. Assumes nothing.
+use Rattle.printing.proofs.Lines.{whole-put}
 use borrow.Author.Needs.{needs}
-use Rattle.text.proofs.put_whole.Statement.{statement}
-use Rattle.text.proofs.put_whole.Tie as tie
+use Rattle.printing.proofs.put_whole.Statement.{statement}
+use Rattle.printing.proofs.put_whole.Tie as tie
 
 put-number-requires : tie.Need-put-number-requires
 put-number-requires c κs = search needs

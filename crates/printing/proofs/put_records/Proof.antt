@@ -1,12 +1,12 @@
--- `text::put_records` meets its contract: after n turns the lines of the first n records are put. Assumes nothing.
+-- `printing::put_records` meets its contract: after n turns the lines of the first n records are put. Assumes nothing.
 use Prim.Native.Nat.{_-_, _*_, _≤_}
 use borrow.Author.Needs.{needs}
 use Rattle.words.specs.Joined.{joined}
 use Rattle.decimal.specs.Put.{PutAt}
-use Rattle.text.specs.Entries.{entryLine}
-use Rattle.text.proofs.Lines.{lines-none, records-more, records-put}
-use Rattle.text.proofs.put_records.Statement.{statement}
-use Rattle.text.proofs.put_records.Tie as tie
+use Rattle.printing.specs.Entries.{entryLine}
+use Rattle.printing.proofs.Lines.{lines-none, records-more, records-put}
+use Rattle.printing.proofs.put_records.Statement.{statement}
+use Rattle.printing.proofs.put_records.Tie as tie
 
 abbrev Inv-loop : tie.InvT-loop
 Inv-loop out₀ start list columns count at₀ n₀ out at n =

@@ -3,7 +3,7 @@ use Prim.Native.Nat.{ℕ, _+_, _/_, _%_}
 use mathlib.Core.List.{List, [], _∷_}
 use lib.IntN.{pos}
 use Rattle.cutter.specs.Agree.{entryAt}
-use Rattle.text.specs.Line.{line}
+use Rattle.printing.specs.Line.{line}
 
 -- column, row, x, y and z of record n in the list of a map with so many inner columns
 unfoldable pub entryLine : List ℕ → ℕ → ℕ → List ℕ

@@ -1,8 +1,8 @@
--- `text::put_record` meets its contract: five numbers are a line. Assumes nothing.
-use Rattle.text.proofs.Lines.{column-fits, column-small, row-fits, row-small, record-put}
+-- `printing::put_record` meets its contract: five numbers are a line. Assumes nothing.
+use Rattle.printing.proofs.Lines.{column-fits, column-small, row-fits, row-small, record-put}
 use borrow.Author.Needs.{needs}
-use Rattle.text.proofs.put_record.Statement.{statement}
-use Rattle.text.proofs.put_record.Tie as tie
+use Rattle.printing.proofs.put_record.Statement.{statement}
+use Rattle.printing.proofs.put_record.Tie as tie
 
 rem-put-whole : tie.Need-rem-put-whole
 rem-put-whole c = search needs

@@ -14,16 +14,14 @@ use Rattle.words.specs.Word.{wordAt}
 use Rattle.words.specs.Signed.{signed, isNegative}
 use Rattle.words.specs.Parts.{partsOf}
 use Rattle.words.specs.Joined.{joined}
-use Rattle.words.specs.Splice.{splice}
 use Rattle.words.specs.declared.Signed.{Signed}
 use Rattle.words.proofs.Differences.{negative-is, magnitude-is}
 use Rattle.cutter.specs.Agree.{entryAt}
 use Rattle.decimal.specs.Digits.{decimal, sign, signedDecimal}
 use Rattle.decimal.specs.Put.{PutAt}
 use Rattle.decimal.proofs.Putting.{put-behind, none-put}
-use Rattle.text.specs.Line.{blank, newline, followed, line}
-use Rattle.text.specs.Text.{refusedText}
-use Rattle.text.specs.Entries.{entryLine}
+use Rattle.printing.specs.Line.{blank, newline, followed, line}
+use Rattle.printing.specs.Entries.{entryLine}
 
 -- ---- one number
 
@@ -46,7 +44,7 @@ module _ (at b : ℕ) (l : List ℕ) (end : ℕ) (l₁ : List ℕ) where
 
 -- ---- a line
 
-line-last : (at : ℕ) (z : ℤ) (l : List ℕ) (end : ℕ) (l₁ : List ℕ) → PutAt at 12 (followed z newline) l end l₁ → PutAt at 12 (line (z ∷ [])) l end l₁
+pub line-last : (at : ℕ) (z : ℤ) (l : List ℕ) (end : ℕ) (l₁ : List ℕ) → PutAt at 12 (followed z newline) l end l₁ → PutAt at 12 (line (z ∷ [])) l end l₁
 unfolding line
 line-last at z l end l₁ p = p
 
@@ -84,23 +82,6 @@ unfolding joined
 lines-more f k at n l p l₁ end l₂ h a b =
     rw (add-one, mul-suc)
     (put-behind at (k * n) k p end (joined f n) (f n) l l₁ l₂ h a b)
-
--- ---- a refusal
-
--- bytes put, with the place behind them
-run-put : (at : ℕ) (b l l₁ : List ℕ) → l₁ ≡ splice at b l → length l₁ ≡ length l → PutAt at (length b) b l (at + length b) l₁
-run-put at b l l₁ e s = record { is = e; behind = refl; most = omega arith; same = s }
-
-pub refused-put : (number : ℕ) (l l₁ l₂ : List ℕ) (end : ℕ) (l₃ : List ℕ) → 20 ≤ length l
-    → l₁ ≡ splice 0 (114 ∷ 101 ∷ 102 ∷ 117 ∷ []) l → length l₁ ≡ length l → l₂ ≡ splice 4 (115 ∷ 101 ∷ 100 ∷ 32 ∷ []) l₁
-    → length l₂ ≡ length l₁ → PutAt 8 12 (followed (pos number) newline) l₂ end l₃ → PutAt 0 20 (refusedText number) l end l₃
-unfolding refusedText
-refused-put number l l₁ l₂ end l₃ h e s e₂ s₂ p =
-    put-behind 0 8 12 8 end (114 ∷ 101 ∷ 102 ∷ 117 ∷ 115 ∷ 101 ∷ 100 ∷ 32 ∷ []) (line (pos number ∷ [])) l l₂ l₃ h
-    (put-behind 0 4 4 4 8 (114 ∷ 101 ∷ 102 ∷ 117 ∷ []) (115 ∷ 101 ∷ 100 ∷ 32 ∷ []) l l₁ l₂ (omega arith)
-    (run-put 0 (114 ∷ 101 ∷ 102 ∷ 117 ∷ []) l l₁ e s)
-    (run-put 4 (115 ∷ 101 ∷ 100 ∷ 32 ∷ []) l₁ l₂ e₂ s₂))
-    (line-last 8 (pos number) l₂ end l₃ p)
 
 -- ---- the records of a list
 

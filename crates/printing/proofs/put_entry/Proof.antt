@@ -1,8 +1,8 @@
--- `text::put_entry` meets its contract: the sign and the magnitude of a word's number. Assumes nothing.
-use Rattle.text.proofs.Lines.{entry-put}
+-- `printing::put_entry` meets its contract: the sign and the magnitude of a word's number. Assumes nothing.
+use Rattle.printing.proofs.Lines.{entry-put}
 use borrow.Author.Needs.{needs}
-use Rattle.text.proofs.put_entry.Statement.{statement}
-use Rattle.text.proofs.put_entry.Tie as tie
+use Rattle.printing.proofs.put_entry.Statement.{statement}
+use Rattle.printing.proofs.put_entry.Tie as tie
 
 mul-word-at : tie.Need-mul-word-at
 mul-word-at c = search needs

@@ -1,8 +1,8 @@
--- `text::put_sizes` meets its contract: four numbers are a line. Assumes nothing.
-use Rattle.text.proofs.Lines.{four-put}
+-- `printing::put_sizes` meets its contract: four numbers are a line. Assumes nothing.
+use Rattle.printing.proofs.Lines.{four-put}
 use borrow.Author.Needs.{needs}
-use Rattle.text.proofs.put_sizes.Statement.{statement}
-use Rattle.text.proofs.put_sizes.Tie as tie
+use Rattle.printing.proofs.put_sizes.Statement.{statement}
+use Rattle.printing.proofs.put_sizes.Tie as tie
 
 put-whole-requires : tie.Need-put-whole-requires
 put-whole-requires c κs = search needs
