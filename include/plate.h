@@ -1,7 +1,7 @@
-/* The plate unit, called from C. Document 01 says what each call answers.
+/* The plate unit, called from C. Documents 01 and 02 say what each call answers.
 
-   Every call takes every value of its numbers, checks them itself and gives one
-   64-bit number:
+   Every call takes every value of its numbers and checks them itself. All but
+   plate_record give one 64-bit number:
 
      bits  0 to 31   the answer, or the list's length in bytes; 0 after a refusal
      bits 32 to 39   the new status; 0 for the raw and the list call
@@ -60,6 +60,29 @@ uint64_t plate_binary32(uint8_t operation, uint8_t rounding, uint8_t status,
    length is 0: pass the address of any byte instead. */
 uint64_t plate_list(uint8_t rounding, const uint8_t *map, size_t map_length,
                     uint8_t *list, size_t list_length);
+
+/* What plate_record gives: refusal 0 with the sizes that the list's trailer
+   states and the coordinates of one record, all in micrometres but width and
+   depth, which count the map's points; or a refusal, and 0 in every other
+   place. */
+struct plate_record_reply {
+  uint8_t refusal;
+  uint32_t width;
+  uint32_t depth;
+  uint32_t step;
+  uint32_t radius;
+  int32_t x;
+  int32_t y;
+  int32_t z;
+};
+
+/* A list read back: its sizes, and its record at an index, which counts from 0,
+   row by row. The list is only read. Its length is the list's own, as plate_list
+   reported it, not that of the buffer that holds it. Refusals: 5, 12, 7, 8, 13
+   and 14, in this order. The pointer spans the length, and is not null even
+   where that is 0. */
+struct plate_record_reply plate_record(const uint8_t *list, size_t list_length,
+                                       size_t index);
 
 #ifdef __cplusplus
 }

@@ -1,5 +1,5 @@
-/* The three calls through include/plate.h: rows of document 01's table, its
-   example, and a refusal of each call.
+/* The calls through include/plate.h: rows of document 01's table, its example
+   written and read back, and a refusal of each call.
 
      cc -std=c99 -Wall -Wextra -Werror -Iinclude tests/c/calls.c target/staticlib/libplate.a
 */
@@ -21,6 +21,24 @@ static int differs(int line, uint64_t given, uint32_t answer, uint8_t status, ui
 #define EXPECT(given, answer, status, refusal) \
     if (differs(__LINE__, (given), (answer), (status), (refusal))) return 1
 
+static int record_differs(int line, struct plate_record_reply given, struct plate_record_reply expected)
+{
+    int same = given.refusal == expected.refusal && given.width == expected.width
+        && given.depth == expected.depth && given.step == expected.step
+        && given.radius == expected.radius && given.x == expected.x && given.y == expected.y
+        && given.z == expected.z;
+    if (!same)
+        printf("calls.c:%d: refusal %d, sizes %lu %lu %lu %lu, record %ld %ld %ld\n", line,
+               given.refusal, (unsigned long)given.width, (unsigned long)given.depth,
+               (unsigned long)given.step, (unsigned long)given.radius, (long)given.x,
+               (long)given.y, (long)given.z);
+    return !same;
+}
+
+/* The members of the reply; those that are not named are 0. */
+#define EXPECT_RECORD(given, ...) \
+    if (record_differs(__LINE__, (given), (struct plate_record_reply){__VA_ARGS__})) return 1
+
 /* Document 01's example: 3 x 3, each row 0, 1,500 and 3,000 high, step 2,000, radius 5,000. */
 static const uint8_t map[52] = {
     0, 0, 0, 0, 0xDC, 0x05, 0, 0, 0xB8, 0x0B, 0, 0,
@@ -38,6 +56,7 @@ static const uint8_t list[28] = {
 int main(void)
 {
     uint8_t buffer[29];
+    uint8_t any[28];
 
     EXPECT(plate_raw(PLATE_RECIPROCAL, 12582912, 0), 178956970, 0, 0);
     EXPECT(plate_raw(PLATE_ROOT, 8388608, 1), 379625062, 0, 0);
@@ -56,5 +75,21 @@ int main(void)
     EXPECT(plate_list(PLATE_NEAREST, map, sizeof map, buffer, sizeof buffer), 28, 0, 0);
     if (memcmp(buffer, list, sizeof list) != 0 || buffer[28] != 0xAA)
         return 1;
+
+    /* x is negative. The buffer's last byte is not of the list. */
+    EXPECT_RECORD(plate_record(buffer, 28, 0), 0, 3, 3, 2000, 5000, -1000, 2000, 5500);
+    EXPECT_RECORD(plate_record(buffer, 28, 1), .refusal = 14);
+    EXPECT_RECORD(plate_record(buffer, 28, (size_t)-1), .refusal = 14);
+    EXPECT_RECORD(plate_record(buffer, 29, 0), .refusal = 12);
+    EXPECT_RECORD(plate_record(map, sizeof map, 0), .refusal = 12);
+    EXPECT_RECORD(plate_record(buffer, 15, 0), .refusal = 5);
+    EXPECT_RECORD(plate_record(buffer + 1, 27, 0), .refusal = 13);
+    if (memcmp(buffer, list, sizeof list) != 0 || buffer[28] != 0xAA)
+        return 1;
+
+    /* Both ends of a record's numbers, which no map yields. */
+    memcpy(any, list, sizeof any);
+    memcpy(any, "\0\0\0\200\377\377\377\177\377\377\377\377", 12);
+    EXPECT_RECORD(plate_record(any, sizeof any, 0), 0, 3, 3, 2000, 5000, INT32_MIN, INT32_MAX, -1);
     return 0;
 }

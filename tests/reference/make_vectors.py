@@ -18,6 +18,11 @@ list_vectors      stdin  binary frames: u32 length of the map, u32 length of the
                   of the roundings 0, 1, 2, 3 and 4. Byte j of the buffer holds
                   (7j + 3) mod 256 before each call; digest() is taken over the
                   whole buffer after it
+record_vectors    stdin  binary frames: u32 length of the list, u32 number of
+                  indexes, both little-endian, then the list, then the indexes,
+                  8 bytes each, little-endian
+                  stdout refusal w d step radius x y z, a line for each frame
+                  and each of its indexes
 platelist         document 01's example
 """
 
@@ -220,13 +225,17 @@ def cross(dx, dy, height=0):
     return [[7, before, -7], [left, height, left + dx], [9, before + dy, 50000]]
 
 
-def make_map(rows, step=1000, radius=5000, letters=b"PLT1", distance=None, w=None,
-             d=None, front=b"", behind=b""):
-    body = b"".join(struct.pack("<i", height) for row in rows for height in row)
+def with_trailer(body, letters, w, d, step=1000, radius=5000, distance=None, front=b"",
+                 behind=b""):
     return front + body + letters + struct.pack(
         "<IHHHH", len(body) if distance is None else distance % 2**32,
-        len(rows[0]) if w is None else w, len(rows) if d is None else d,
-        step, radius) + behind
+        w, d, step, radius) + behind
+
+
+def make_map(rows, letters=b"PLT1", w=None, d=None, **others):
+    body = b"".join(struct.pack("<i", height) for row in rows for height in row)
+    return with_trailer(body, letters, len(rows[0]) if w is None else w,
+                        len(rows) if d is None else d, **others)
 
 
 def exact_length(rows):
@@ -403,6 +412,202 @@ def list_files():
     return b"".join(given), "".join(expected).encode()
 
 
+# ------------------------------------------------------------------ record
+
+def make_list(numbers, w=3, d=3, letters=b"CUT1", **others):
+    """A list of any numbers, each taken in 32 bits."""
+    body = b"".join(struct.pack("<I", number % 2**32) for number in numbers)
+    return with_trailer(body, letters, w, d, **others)
+
+
+# Of a list 3 x 3 the first is a record's index and the others are not.
+SOME_INDEXES = (0, 1, 2**64 - 1)
+
+# Both ends of 32 bits, bytes that a sign could be taken from, and letters.
+NUMBERS = (0, 1, -1, 2, 2**31 - 1, -2**31, 1 - 2**31, 127, 128, 255, 256, -256, 2**15,
+           2**16 - 1, 2**16, -2**16, 2**23, 2**24, -2**24, 0x7FFF8000, 0x55AA55AA,
+           -0x55AA55AA, *(plate.whole(letters) for letters in (b"CUT1", b"CUT2", b"PLT1")))
+
+
+def record_frames():
+    chance = random.Random("record")
+
+    def written(rows, rounding, **others):
+        """A list as the list call writes it."""
+        refusal, length, made = plate.cutter_list(
+            rounding, make_map(rows, **others), bytes(exact_length(rows)))
+        assert refusal == 0 and length == len(made)
+        return made
+
+    def beyond(count):
+        """Indexes that are not below the count. Those with k would find a record in
+        arithmetic of 16, 32 or 64 bits: themselves, or 12 times themselves."""
+        k = chance.randrange(count)
+        return [count, count + 1, 2**16, 2**16 + k, 2**30 + k, 2**31, 2**32 - 1, 2**32,
+                2**32 + k, 2**62 + k, 2**63, 2**64 - 1]
+
+    def each(count, others=4):
+        """Every index of a short list, and some beyond."""
+        return [*range(count), count, *chance.sample(beyond(count), others)]
+
+    def ends(count):
+        return sorted({0, min(1, count - 1), count - 1, count, chance.randrange(count)})
+
+    def some_records(count):
+        return [chance.choice((chance.choice(NUMBERS), chance.randrange(2**32)))
+                for _ in range(3 * count)]
+
+    # Document 01's example.
+    example = written(plane(3, 3, 1500, 0), plate.NEAREST, step=2000, radius=5000)
+    yield example, [0, *beyond(1)]
+
+    # Lists that the list call writes, in the four roundings.
+    for trial in range(24):
+        w, d = chance.randint(3, 6), chance.randint(3, 6)
+        rows = (cross(100000, -99999, 50000) if trial == 0 else steep(w, d) if trial < 4
+                else rough(chance, w, d, chance.choice((1, 20, 3000, 50000))))
+        step, radius = chance.randint(1, 10000), chance.randint(1, 12500)
+        for rounding in range(4):
+            made = written(rows, rounding, step=step, radius=radius)
+            yield made, each((len(made) - 16) // 12)
+
+    # Long and thin, then middling.
+    for w, d in ((3, 64), (64, 3)):
+        yield written(rough(chance, w, d, 4000), plate.DOWN, step=500), each(62, 1)
+    for w, d in ((12, 20), (33, 7), (64, 4)):
+        made = written(arched(w, d, 9000), plate.UP, radius=12500)
+        count = (w - 2) * (d - 2)
+        yield made, ends(count) + [chance.randrange(count) for _ in range(20)] + beyond(count)
+
+    # The largest, and one byte more. Row after row has 62 records.
+    largest = written(rough(chance, 64, 64, 50000), plate.UP, step=10000, radius=12500)
+    edges = [k * 62 + more for k in (0, 1, 2, 31, 61) for more in (0, 1, 60, 61)]
+    yield largest, [*edges, *(chance.randrange(62 * 62) for _ in range(32)), *beyond(62 * 62)]
+    yield bytes(1) + largest, [0, 62 * 62 - 1, 62 * 62]
+
+    # Records with any values: each bit alone and each bit missing, then each of the
+    # numbers as x, as y and as z, then anything.
+    bits = [number for k in range(32) for number in (1 << k, ~(1 << k), -1 << k)]
+    yield make_list(bits, 4, 18), each(32)
+    shifted = (NUMBERS[k:] + NUMBERS[:k] for k in (0, 7, 13))
+    numbers = [number for record in zip(*shifted) for number in record]
+    yield make_list(numbers, 3, 2 + len(NUMBERS)), each(len(NUMBERS))
+    for _ in range(40):
+        w, d = chance.randint(3, 6), chance.randint(3, 6)
+        made = make_list(some_records((w - 2) * (d - 2)), w, d, step=chance.randint(1, 10000),
+                         radius=chance.randint(1, 12500))
+        yield made, each((w - 2) * (d - 2), 2)
+
+    # Every edge of step and radius.
+    for step in (1, 2, 9999, 10000):
+        for radius in (1, 2, 10001, 12499, 12500):
+            yield make_list(some_records(1), step=step, radius=radius), SOME_INDEXES
+
+    # w and d exchanged, and others of the same product of w - 2 and d - 2: accepted.
+    # 4 x 6 has as many bytes of heights as of records. The rest disagree.
+    for w, d in ((3, 8), (8, 3), (4, 5), (5, 4), (3, 9), (5, 8), (3, 7)):
+        yield make_list(some_records(6), w, d), ends(6)
+    for w, d in ((4, 6), (6, 4), (3, 10), (10, 3), (5, 5)):
+        yield make_list(some_records(8), w, d), ends(8)
+
+    # 5: every length to 17, of what a list, a map and letters begin or end with.
+    trailer = make_list([])
+    for whole in (example, trailer + bytes(1), bytes(1) + trailer, make_list([], distance=12),
+                  make_map(flat(3, 3)), b"CUT1" * 5, bytes(17), b"\xff" * 17):
+        for length in range(18):
+            for cut in sorted({whole[:length], whole[len(whole) - length:]}):
+                yield cut, chance.sample(SOME_INDEXES, 2)
+
+    # 12: letters, those of other kinds of list at their own places too.
+    for letters in (b"DUT1", b"CVT1", b"CUU1", b"CUT2", b"CUT3", b"CUT0", b"cut1", b"PLT1",
+                    b"1TUC", b"\0\0\0\0", b"CUT\xb1", b"CUT\0", b"\0UT1", b"TUC1"):
+        yield make_list(some_records(1), letters=letters), SOME_INDEXES
+    for behind in (b"\0", b"\0\0", bytes(4), b"CUT1", bytes(12), bytes(16), trailer[:15]):
+        for letters in (b"CUT1", b"CUT2", b"CUT3"):
+            yield make_list(some_records(1), letters=letters, behind=behind), SOME_INDEXES
+    for rounding in range(5):
+        behind = struct.pack("<H", rounding)
+        yield make_list(some_records(2), 4, 3, b"CUT2", behind=behind), ends(2)
+        yield make_list(some_records(2), 4, 3, b"CUT3", behind=bytes(2) + behind), ends(2)
+    yield make_map(flat(3, 3)), SOME_INDEXES
+    yield bytes(46), SOME_INDEXES
+    # A second trailer behind: it speaks for the whole, which is too long.
+    yield make_list(some_records(1)) + trailer, SOME_INDEXES
+    yield example * 2, SOME_INDEXES
+
+    # 7: w and d, with records and distances that agree where that is possible.
+    for size in (0, 1, 2, 65, 66, 128, 256, 259, 768, 32771, 65535):
+        for w, d in ((size, 3), (3, size), (size, 64), (size, size)):
+            count = (w - 2) * (d - 2)
+            records = some_records(count if 0 <= count < 70 else 1)
+            yield make_list(records, w, d, distance=12 * count), SOME_INDEXES[:2]
+
+    # 8: step and radius.
+    for step, radius in ((0, 1), (1, 0), (0, 0), (10001, 12500), (10000, 12501), (12500, 1),
+                         (10001, 12501), (65535, 1), (1, 65535), (32769, 1), (1, 32769),
+                         (256, 0), (0, 256)):
+        yield make_list(some_records(1), step=step, radius=radius), SOME_INDEXES
+
+    # 13: the distance back, then the whole length, then both in step.
+    for w, d in ((3, 3), (4, 5)):
+        count = (w - 2) * (d - 2)
+        right = 12 * count
+        for distance in (0, 1, right - 12, right - 1, right + 1, right + 4, right + 12,
+                         right + 16, 4 * w * d, 12 * w * d, right + 2**8, right + 2**16,
+                         right + 2**24, right + 2**31, -right, -1, -16, 2**31):
+            yield make_list(some_records(count), w, d, distance=distance), ends(count)
+        for front in (b"\0", bytes(4), b"CUT1", bytes(12), trailer, bytes(right)):
+            for distance in (right, right + len(front)):
+                yield make_list(some_records(count), w, d, front=front,
+                                distance=distance), ends(count)
+        for missing in (1, 4, 11, 12, right):
+            for distance in (right, right - missing):
+                made = make_list(some_records(count), w, d, distance=distance)
+                yield made[missing:], ends(count)
+        # As long as a map of these sizes.
+        yield make_list([0] * (w * d), w, d), ends(count)
+
+    # Faults 12, 7, 8 and 13 by two, by three and all at once; 14 is with them in
+    # the later indexes.
+    faults = {12: (dict(letters=b"CUT\0"), dict(letters=b"PLT1"), dict(behind=b"\0")),
+              7: (dict(w=2), dict(d=2), dict(w=65), dict(d=65535), dict(w=1, d=1)),
+              8: (dict(step=0), dict(step=10001), dict(radius=0), dict(radius=12501)),
+              13: (dict(distance=0), dict(distance=24), dict(front=b"\0"),
+                   dict(front=bytes(12), distance=24))}
+    for count in (2, 3, 4):
+        for chosen in itertools.combinations(faults, count):
+            for _ in range(8):
+                settings = {}
+                for number in chosen:
+                    settings.update(chance.choice(faults[number]))
+                yield make_list(some_records(1), **settings), SOME_INDEXES
+
+    # Written lists with one byte changed, of the trailer in every second.
+    for trial in range(600):
+        rows = rough(chance, chance.randint(3, 5), chance.randint(3, 5), 20000)
+        made = bytearray(written(rows, trial % 4, step=chance.randint(1, 10000),
+                                 radius=chance.randint(1, 12500)))
+        place = len(made) - 16 + chance.randrange(16) if trial % 2 else chance.randrange(len(made))
+        made[place] ^= chance.randint(1, 255)
+        count = (len(made) - 16) // 12
+        yield bytes(made), sorted({0, chance.randrange(count), count - 1, count})
+
+
+RECORD_ROOM = 260000            # the program record_vectors is given fewer bytes
+
+
+def record_files():
+    given, expected = [], []
+    for some_list, indexes in record_frames():
+        assert len(some_list) <= plate.LONGEST_LIST + 1 and len(indexes) <= 64
+        given.append(struct.pack(f"<II{len(some_list)}s{len(indexes)}Q", len(some_list),
+                                 len(indexes), some_list, *indexes))
+        for index in indexes:
+            expected.append("%d %d %d %d %d %d %d %d\n" % plate.record(some_list, index))
+    assert sum(map(len, given)) < RECORD_ROOM
+    return b"".join(given), "".join(expected).encode()
+
+
 # --------------------------------------------------------------- platelist
 
 def platelist_files():
@@ -416,7 +621,7 @@ def main():
         sys.exit("usage: make_vectors.py [--check]")
     differing = 0
     for name, files in (("call_vectors", call_files), ("list_vectors", list_files),
-                        ("platelist", platelist_files)):
+                        ("record_vectors", record_files), ("platelist", platelist_files)):
         for file, content in zip(("stdin", "stdout"), files()):
             path = CRATES / name / file
             if check:

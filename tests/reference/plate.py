@@ -1,12 +1,15 @@
-"""The plate unit, written from document 01 alone.
+"""The plate unit, written from documents 01 and 02 alone.
 
 Whole numbers and fractions only, no floats. It is written to be laid beside
-the document, not to be fast. The order is the document's: raw unit, binary32
-unit, map and list, questions at the door, the program platelist.
+the documents, not to be fast. The order is document 01's: raw unit, binary32
+unit, map and list, questions at the door, the program platelist. Of document
+02 it has request #101, the reader, which stands with the list.
 
     raw(operation, significand, parity)            -> (refusal, answer)
     binary32(operation, rounding, bits, status)    -> (refusal, bits, status)
     cutter_list(rounding, map_bytes, buffer_bytes) -> (refusal, length, buffer)
+    record(list_bytes, index)                      -> (refusal, w, d, step,
+                                                       radius, x, y, z)
     platelist(input_bytes)                         -> output bytes
 
 Refusal 0 means that the call was accepted.
@@ -197,9 +200,9 @@ def signed(some_bytes):
     return int.from_bytes(some_bytes, "little", signed=True)
 
 
-def sizes(map_bytes):
-    """w, d, step and radius from the last 8 bytes."""
-    last = map_bytes[-8:]
+def sizes(some_bytes):
+    """w, d, step and radius from the last 8 bytes of a map or a list."""
+    last = some_bytes[-8:]
     return whole(last[0:2]), whole(last[2:4]), whole(last[4:6]), whole(last[6:8])
 
 
@@ -250,11 +253,15 @@ def centres(rounding, map_bytes):
     return records
 
 
+def record_count(w, d):
+    return (w - 2) * (d - 2)
+
+
 def list_length(w, d):
-    return 12 * (w - 2) * (d - 2) + TRAILER
+    return 12 * record_count(w, d) + TRAILER
 
 
-def list_bytes(rounding, map_bytes):
+def whole_list(rounding, map_bytes):
     """The whole list of an accepted map."""
     records = b"".join(
         number.to_bytes(4, "little", signed=True)
@@ -268,8 +275,18 @@ def cutter_list(rounding, map_bytes, buffer_bytes):
     refusal = list_refusal(rounding, map_bytes, len(buffer_bytes))
     if refusal:
         return refusal, 0, buffer_bytes
-    made = list_bytes(rounding, map_bytes)
+    made = whole_list(rounding, map_bytes)
     return 0, len(made), made + buffer_bytes[len(made):]
+
+
+def record(list_bytes, index):
+    """Document 02, #101: the sizes of a list and one record of it."""
+    refusal = record_refusal(list_bytes, index)
+    if refusal:
+        return refusal, 0, 0, 0, 0, 0, 0, 0
+    place = 12 * index
+    x, y, z = (signed(list_bytes[k:k + 4]) for k in (place, place + 4, place + 8))
+    return 0, *sizes(list_bytes), x, y, z
 
 
 # --------------------------------------------------- Questions at the door
@@ -280,6 +297,25 @@ def operation_known(operation):                                        # 1
 
 def rounding_known(rounding):                                          # 2
     return 0 <= rounding <= 3
+
+
+def letters(some_bytes):                                               # 6, 12
+    """The four letters at the front of the last 16 bytes."""
+    return some_bytes[-TRAILER:][:4]
+
+
+def width_and_depth_fit(w, d):                                         # 7
+    return 3 <= w <= 64 and 3 <= d <= 64
+
+
+def step_and_radius_fit(step, radius):                                 # 8
+    return 1 <= step <= 10000 and 1 <= radius <= 12500
+
+
+def body_agrees(some_bytes, body):                                     # 9, 13
+    """Whether the distance back is this many bytes, and the whole that plus 16."""
+    distance = whole(some_bytes[-TRAILER:][4:8])
+    return distance == body and len(some_bytes) == distance + TRAILER
 
 
 def raw_refusal(operation, significand, parity):
@@ -305,21 +341,45 @@ def list_refusal(rounding, map_bytes, buffer_length):
         return 2
     if not len(map_bytes) >= TRAILER:
         return 5
-    trailer = map_bytes[-TRAILER:]
-    if not trailer[0:4] == b"PLT1":
+    if not letters(map_bytes) == b"PLT1":
         return 6
     w, d, step, radius = sizes(map_bytes)
-    if not (3 <= w <= 64 and 3 <= d <= 64):
+    if not width_and_depth_fit(w, d):
         return 7
-    if not (1 <= step <= 10000 and 1 <= radius <= 12500):
+    if not step_and_radius_fit(step, radius):
         return 8
-    distance = whole(trailer[4:8])
-    if not (distance == 4*w*d and len(map_bytes) == distance + TRAILER):
+    if not body_agrees(map_bytes, 4*w*d):
         return 9
     if not all(-50000 <= height <= 50000 for height in heights(map_bytes)):
         return 10
     if not buffer_length >= list_length(w, d):
         return 11
+    return 0
+
+
+def reader_refusal(list_bytes):
+    """What the reader asks of a list before it looks at the index."""
+    if not len(list_bytes) >= TRAILER:
+        return 5
+    if not letters(list_bytes) == b"CUT1":
+        return 12
+    w, d, step, radius = sizes(list_bytes)
+    if not width_and_depth_fit(w, d):
+        return 7
+    if not step_and_radius_fit(step, radius):
+        return 8
+    if not body_agrees(list_bytes, 12 * record_count(w, d)):
+        return 13
+    return 0
+
+
+def record_refusal(list_bytes, index):
+    refusal = reader_refusal(list_bytes)
+    if refusal:
+        return refusal
+    w, d, _, _ = sizes(list_bytes)
+    if not 0 <= index < record_count(w, d):
+        return 14
     return 0
 
 

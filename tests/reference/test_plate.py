@@ -1,10 +1,11 @@
 """Self-test of plate.py: python3 tests/reference/test_plate.py
 
-The expected values are typed from document 01. Where a check comes from
-elsewhere (IEEE 754, the machine's own arithmetic, public vectors, counting) its
-comment says so.
+The expected values are typed from document 01, the reader's from request #101
+of document 02. Where a check comes from elsewhere (IEEE 754, the machine's own
+arithmetic, public vectors, counting) its comment says so.
 """
 
+import itertools
 import math
 import random
 import struct
@@ -163,6 +164,103 @@ class Refusals(unittest.TestCase):
         # Exactly a trailer, sizes in order: there are no heights, so 9.
         trailer = b"PLT1" + struct.pack("<IHHHH", 36, 3, 3, 1, 1)
         self.assertEqual(plate.cutter_list(0, trailer, bytes(28))[0], 9)
+
+
+def refused(number):
+    """What the reader gives after a refusal: every other number is 0."""
+    return (number, 0, 0, 0, 0, 0, 0, 0)
+
+
+class Reader(unittest.TestCase):
+    """Document 02, "#101 Read a list back"."""
+
+    def check(self, number, list_bytes, index):
+        self.assertEqual(plate.record(list_bytes, index), refused(number))
+
+    def test_example(self):
+        a_map = make_map([[0, 1500, 3000]] * 3, 2000, 5000)
+        refusal, length, made = plate.cutter_list(NEAREST, a_map, bytes(40))
+        self.assertEqual((refusal, length), (0, 28))
+        self.assertEqual(plate.record(made[:28], 0),
+                         (0, 3, 3, 2000, 5000, -1000, 2000, 5500))
+        self.check(14, made[:28], 1)
+        # The whole buffer is not the list: its last 16 bytes hold no letters.
+        self.check(12, made, 0)
+
+    def test_written_lists(self):
+        chance = random.Random(102)
+        for w, d in ((3, 3), (3, 6), (6, 3), (4, 5), (9, 7), (64, 3), (3, 64)):
+            top = chance.choice((2, 3000, 50000))
+            rows = [[chance.randint(-top, top) for _ in range(w)] for _ in range(d)]
+            step, radius = chance.randint(1, 10000), chance.randint(1, 12500)
+            a_map = make_map(rows, step, radius)
+            for rounding in ROUNDINGS:
+                refusal, length, made = plate.cutter_list(rounding, a_map, bytes(9000))
+                self.assertEqual(refusal, 0)
+                made = made[:length]
+                expected = plate.centres(rounding, a_map)
+                self.assertEqual(len(expected), (w - 2) * (d - 2))
+                for index, centre in enumerate(expected):
+                    self.assertEqual(plate.record(made, index),
+                                     (0, w, d, step, radius, *centre))
+                for beyond in (0, 1, 2**32, 2**64 - 1 - len(expected)):
+                    self.check(14, made, len(expected) + beyond)
+
+    def test_any_values(self):
+        numbers = (-2**31, 2**31 - 1, -1, 0, 1, 128, 2**15, 2**23, -2**24,
+                   0x31545543, 0x12345678, -0x12345678)     # CUT1 among them
+        made = struct.pack("<12i", *numbers) + b"CUT1" + struct.pack(
+            "<IHHHH", 48, 4, 4, 10000, 12500)
+        for index in range(4):
+            self.assertEqual(plate.record(made, index), (
+                0, 4, 4, 10000, 12500, *numbers[3 * index:3 * index + 3]))
+
+    def test_short(self):
+        trailer = b"CUT1" + struct.pack("<IHHHH", 12, 3, 3, 1, 1)
+        for length in range(16):
+            self.check(5, trailer[:length], 0)
+            self.check(5, trailer[16 - length:], 2**64 - 1)
+        self.check(13, trailer, 0)
+        self.check(12, trailer + b"\0", 0)
+
+    def test_refusals_and_order(self):
+        def read(letters=b"CUT1", w=3, d=3, step=1, radius=1, distance=12, front=b"",
+                 behind=b"", index=0):
+            made = front + b"abcdABCD1234" + letters + struct.pack(
+                "<IHHHH", distance, w, d, step, radius) + behind
+            return plate.record(made, index)
+
+        accepted = (0, 3, 3, 1, 1, *struct.unpack("<3i", b"abcdABCD1234"))
+        self.assertEqual(read(), accepted)
+        self.assertEqual(read(step=10000, radius=12500)[:5], (0, 3, 3, 10000, 12500))
+        # (1 - 2)(1 - 2) is 1 too: only question 7 keeps such a list out.
+        faults = [
+            (12, [dict(letters=b"PLT1"), dict(letters=b"CUT2"), dict(letters=b"cut1"),
+                  dict(behind=b"\0"), dict(behind=b"CUT1")]),
+            (7, [dict(w=2), dict(d=2), dict(w=65), dict(d=65), dict(w=0), dict(d=65535),
+                 dict(w=1, d=1)]),
+            (8, [dict(step=0), dict(step=10001), dict(radius=0), dict(radius=12501)]),
+            (13, [dict(distance=0), dict(distance=11), dict(distance=36),
+                  dict(distance=12 + 2**16), dict(distance=12 + 2**31),
+                  dict(front=b"\0"), dict(front=bytes(12), distance=24)]),
+            (14, [dict(index=1), dict(index=2**32), dict(index=2**64 - 1)]),
+        ]
+        for number, settings in faults:
+            for one in settings:
+                self.assertEqual(read(**one), refused(number), one)
+        for (number, some), (_, others) in itertools.combinations(faults, 2):
+            for one, other in itertools.product(some, others):
+                self.assertEqual(read(**other, **one), refused(number), (one, other))
+        # w and d ask for two records: one is too few, whatever the distance says.
+        self.assertEqual(read(w=4)[0], 13)
+        self.assertEqual(read(w=4, distance=24)[0], 13)
+        self.assertEqual(read(w=4, distance=24, front=bytes(12))[:3], (0, 4, 3))
+
+    def test_without_index(self):
+        made = b"abcdABCD1234CUT1" + struct.pack("<IHHHH", 12, 3, 3, 1, 1)
+        self.assertEqual(plate.reader_refusal(made), 0)
+        self.assertEqual(plate.reader_refusal(made[1:]), 13)
+        self.assertEqual(plate.reader_refusal(made[:-1]), 12)
 
 
 class SpecialOperands(unittest.TestCase):

@@ -1,35 +1,35 @@
 -- What a list call that is not refused knows of its map and its buffer. Assumes nothing.
 use mathlib.Core.Path.{_≡_, refl, sym, ap, _∙_}
-use mathlib.Core.Bool.{Bool, true, false, not, _&&_, true≢false}
+use mathlib.Core.Bool.{Bool, true, false, not}
 use mathlib.Core.List.{List}
-use Prim.Native.Nat.{ℕ, zero, suc, _+_, _-_, _*_, _≤_, _<_}
-use native.Mathlib.Nat.{mul-le-mul, not-suc-le-zero}
+use Prim.Native.Nat.{ℕ, zero, suc, _+_, _*_, _≤_, _<_}
+use native.Mathlib.Nat.{not-suc-le-zero}
 use native.Mathlib.Omega.{arith}
-use borrow.Author.Tests.{not-true, not-false, le-leb, leb-true, eqb-true, ne-eqb}
+use borrow.Author.Tests.{not-true, not-false, le-leb, leb-true, eqb-true, eq-eqb, ne-eqb}
 use lib.Dec.{leb, eqb}
 use lib.ListN.{length}
 use lib.IntN.{natAbs}
 use Rattle.kinds.specs.Rounding.{isRounding, modeOf}
-use Rattle.kinds.proofs.Questions.{later, yes, sure, ask-yes, ask-no}
+use Rattle.kinds.proofs.Questions.{later, yes, sure, both-are, ask-yes, ask-no, ask-most, then-later, then-none}
 use Rattle.words.specs.Word.{wordAt}
 use Rattle.words.specs.Signed.{signed}
 use Rattle.words.specs.Splice.{splice}
 use Rattle.words.proofs.Differences.{either}
 use Rattle.trailer.specs.Kinds.{lengthOf}
-use Rattle.trailer.specs.Bytes.{endsIn}
+use Rattle.trailer.specs.Bytes.{lastFields, endsIn}
+use Rattle.trailer.proofs.Readings.{ends-fit}
+use Rattle.trailer.specs.declared.Kind.{Kind}
 use Rattle.trailer.specs.declared.Kind.the-variants.{Plt1, Cut1}
 use Rattle.trailer.specs.declared.Fields.{Fields}
 use Rattle.cutter.specs.Limits.{bytesLeast, sideLeast, sideMost, stepMost, radiusMost, heightMost}
-use Rattle.cutter.specs.Map.{trailerOf, distanceOf, widthOf, depthOf, stepOf, radiusOf}
+use Rattle.cutter.specs.Map.{trailerOf, distanceOf, widthOf, depthOf}
 use Rattle.cutter.specs.List.{countOf, listLength, listBytes}
-use Rattle.cutter.specs.Call.{within, isSized, isStepped, isLong, heightsWithin, hasRoom, mapRefusal, listRefusal, listAnswer, bufferAfter}
-use Rattle.cutter.specs.Accepted.{Sizes, Steps, Accepted, Ready}
+use Rattle.cutter.specs.Sizes.{within, isSized, isStepped, trailerRefusal, isWhole}
+use Rattle.cutter.specs.Call.{heightsWithin, hasRoom, heightsRefusal, mapRefusal, listRefusal, listAnswer, bufferAfter}
+use Rattle.cutter.specs.Accepted.{Sizes, Steps, Trailed, Accepted, Ready}
+use Rattle.cutter.proofs.Counts.{count-most}
 
 -- ---- "yes" taken apart
-
-pub both-are : (a b : Bool) → a && b ≡ true → (a ≡ true) × (b ≡ true)
-both-are true b e = (refl, e)
-both-are false b e = absurd (true≢false (sym e))
 
 within-is : (low high x : ℕ) → within low high x ≡ true → (low ≤ x) × (x ≤ high)
 within-is low high x e =
@@ -50,6 +50,20 @@ steps-are step radius e =
     let y = within-is 1 radiusMost radius (p .1) in
     record { step-least = x .0; step-most = x .1; radius-least = y .0; radius-most = y .1 }
 
+-- ---- and put together
+
+within-yes : (low high x : ℕ) → low ≤ x → x ≤ high → within low high x ≡ true
+within-yes low high x h k = simp (le-leb low x h, le-leb x high k)
+
+are-sized : (w d : ℕ) → Sizes w d → isSized w d ≡ true
+are-sized w d s = simp (within-yes sideLeast sideMost w (s .wide) (s .narrow), within-yes sideLeast sideMost d (s .deep) (s .shallow))
+
+are-stepped : (step radius : ℕ) → Steps step radius → isStepped step radius ≡ true
+are-stepped step radius s =
+    simp (within-yes 1 stepMost step (s .step-least) (s .step-most), within-yes 1 radiusMost radius (s .radius-least) (s .radius-most))
+
+-- ---- the heights
+
 heights-small : (m : List ℕ) (n : ℕ) → heightsWithin m n ≡ true → (i : ℕ) → i < n → natAbs (signed (wordAt m (4 * i))) ≤ heightMost
 unfolding heightsWithin
 heights-small m zero e i h = absurd (not-suc-le-zero h)
@@ -61,51 +75,79 @@ heights-small m (suc n) e i h =
     leb-true (natAbs (signed (wordAt m (4 * i)))) heightMost (ap (λ (x : ℕ). leb (natAbs (signed (wordAt m (4 * x)))) heightMost) (sym j) ∙ p .1))
     (λ k. heights-small m n (p .0) i k)
 
+-- ---- the questions about a trailer
+
+-- what they tell, whichever number the letters' question has
+pub trailed-of : (k : Kind) (letters : ℕ) (m : List ℕ) → trailerRefusal k (suc letters) m ≡ 0 → Trailed k m
+unfolding trailerRefusal endsIn
+trailed-of k letters m e =
+    let t : Fields = lastFields k m in
+    let a5 = yes (leb bytesLeast (length m)) 4 _ e in
+    let a6 = yes (endsIn k m) letters _ (a5 .1) in
+    let a7 = yes (isSized (t .width) (t .depth)) 6 _ (a6 .1) in
+    let a8 = yes (isStepped (t .step) (t .radius)) 7 0 (a7 .1) in
+    record {
+      least = leb-true bytesLeast (length m) (sure _ (a5 .0));
+      fits = ends-fit k m (sure _ (a6 .0));
+      sizes = sizes-are (t .width) (t .depth) (sure _ (a7 .0));
+      steps = steps-are (t .step) (t .radius) (sure _ (a8 .0));
+    }
+
+-- and what answers them all "yes"
+pub trailer-yes : (k : Kind) (letters : ℕ) (m : List ℕ) → bytesLeast ≤ length m → endsIn k m ≡ true
+    → Sizes (lastFields k m .width) (lastFields k m .depth) → Steps (lastFields k m .step) (lastFields k m .radius) → 0 ≡ trailerRefusal k letters m
+unfolding trailerRefusal
+trailer-yes k letters m h e s t =
+    ask-yes _ 5 _ 0 (le-leb bytesLeast (length m) h)
+    (ask-yes _ letters _ 0 e
+    (ask-yes _ 7 _ 0 (are-sized (lastFields k m .width) (lastFields k m .depth) s)
+    (ask-yes _ 8 0 0 (are-stepped (lastFields k m .step) (lastFields k m .radius) t) refl)))
+
+-- they give no number above 8 and their own
+pub trailer-most : (k : Kind) (letters : ℕ) (m : List ℕ) (n : ℕ) → 8 ≤ n → letters ≤ n → trailerRefusal k letters m ≤ n
+unfolding trailerRefusal
+trailer-most k letters m n h l =
+    ask-most _ 5 _ n (omega arith) (ask-most _ letters _ n l (ask-most _ 7 _ n (omega arith) (ask-most _ 8 0 n h (omega arith))))
+
+-- the bytes are as many as the sizes ask for
+pub whole-long : (k : Kind) (before distance long : ℕ) → isWhole k before distance long ≡ true → long ≡ before + lengthOf k
+whole-long k before distance long e = eqb-true long (before + lengthOf k) (both-are (eqb distance before) (eqb long (before + lengthOf k)) e .1)
+
+pub whole-yes : (k : Kind) (before distance long : ℕ) → distance ≡ before → long ≡ before + lengthOf k → isWhole k before distance long ≡ true
+whole-yes k before distance long e f = simp (eq-eqb distance before e, eq-eqb long (before + lengthOf k) f)
+
 -- ---- the map's questions
 
 pub accepted-of : (m : List ℕ) (room : ℕ) → mapRefusal m room ≡ 0 → Accepted m room
-unfolding mapRefusal
+unfolding mapRefusal heightsRefusal
 accepted-of m room e =
     let w : ℕ = widthOf m in
     let d : ℕ = depthOf m in
-    let a5 = yes (leb bytesLeast (length m)) 4 _ e in
-    let a6 = yes (endsIn Plt1 m) 5 _ (a5 .1) in
-    let a7 = yes (isSized w d) 6 _ (a6 .1) in
-    let a8 = yes (isStepped (stepOf m) (radiusOf m)) 7 _ (a7 .1) in
-    let a9 = yes (isLong (distanceOf m) (length m) (w * d)) 8 _ (a8 .1) in
+    let both = then-none (trailerRefusal Plt1 6 m) (heightsRefusal m room) e in
+    let t = trailed-of Plt1 5 m (both .0) in
+    let a9 = yes (isWhole Plt1 (4 * (w * d)) (distanceOf m) (length m)) 8 _ (both .1) in
     let a10 = yes (heightsWithin m (w * d)) 9 _ (a9 .1) in
     let a11 = yes (hasRoom m room) 10 0 (a10 .1) in
-    let nine = both-are (eqb (distanceOf m) (4 * (w * d))) (eqb (length m) (4 * (w * d) + lengthOf Plt1)) (sure _ (a9 .0)) in
-    let long : length m ≡ 4 * (w * d) + lengthOf Plt1 = eqb-true (length m) (4 * (w * d) + lengthOf Plt1) (nine .1) in
+    let long : length m ≡ 4 * (w * d) + lengthOf Plt1 = whole-long Plt1 (4 * (w * d)) (distanceOf m) (length m) (sure _ (a9 .0)) in
     record {
-      least = leb-true bytesLeast (length m) (sure _ (a5 .0));
-      sizes = sizes-are w d (sure _ (a7 .0));
-      steps = steps-are (stepOf m) (radiusOf m) (sure _ (a8 .0));
+      least = t .least;
+      sizes = t .sizes;
+      steps = t .steps;
       long = long;
       heights = record { held = omega arith; small = heights-small m (w * d) (sure _ (a10 .0)) };
       held = leb-true (listLength m) room (sure _ (a11 .0));
     }
 
--- a map has at most 62 × 62 inner points
-pub count-most : (w d : ℕ) → Sizes w d → countOf w d ≤ countOf sideMost sideMost
-count-most w d s =
-    let p : w - 2 ≤ sideMost - 2 = omega (arith, s .narrow) in
-    let q : d - 2 ≤ sideMost - 2 = omega (arith, s .shallow) in
-    mul-le-mul p q
-
 -- a buffer for a list of 62 × 62 records holds every list: question 11 is then never answered "no"
 pub always-room : (m : List ℕ) (room : ℕ) → 12 * countOf sideMost sideMost + lengthOf Cut1 ≤ room → mapRefusal m room ≡ 11 → ⊥
-unfolding mapRefusal listLength
+unfolding mapRefusal heightsRefusal listLength
 always-room m room h e =
     let w : ℕ = widthOf m in
     let d : ℕ = depthOf m in
-    let a5 = later (leb bytesLeast (length m)) 5 _ 11 (λ z. omega arith) e in
-    let a6 = later (endsIn Plt1 m) 6 _ 11 (λ z. omega arith) (a5 .1) in
-    let a7 = later (isSized w d) 7 _ 11 (λ z. omega arith) (a6 .1) in
-    let a8 = later (isStepped (stepOf m) (radiusOf m)) 8 _ 11 (λ z. omega arith) (a7 .1) in
-    let a9 = later (isLong (distanceOf m) (length m) (w * d)) 9 _ 11 (λ z. omega arith) (a8 .1) in
+    let both = then-later (trailerRefusal Plt1 6 m) (heightsRefusal m room) 11 (λ z. omega (arith, trailer-most Plt1 6 m 8 (omega arith) (omega arith))) e in
+    let a9 = later (isWhole Plt1 (4 * (w * d)) (distanceOf m) (length m)) 9 _ 11 (λ z. omega arith) (both .1) in
     let a10 = later (heightsWithin m (w * d)) 10 _ 11 (λ z. omega arith) (a9 .1) in
-    let most = count-most w d (sizes-are w d (sure _ (a7 .0))) in
+    let most = count-most w d (trailed-of Plt1 5 m (both .0) .sizes) in
     let room-is : hasRoom m room ≡ true = le-leb (12 * countOf w d + lengthOf Cut1) room (omega (arith, most)) in
     let zero-is : _≡_ {A = ℕ} 0 11 = ask-yes (hasRoom m room) 11 0 0 room-is refl ∙ a10 .1 in
     omega arith

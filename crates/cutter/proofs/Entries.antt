@@ -67,31 +67,35 @@ module _ (a b : Mode) (m : List ℕ) where
       ap (λ (s : List ℕ). s ++ trailerBytes Cut1 (listFields m))
       (joined-same (recordAt a m) (recordAt b m) c (λ n h. ap recordBytes (e n h)))
 
+-- ---- a list, whatever stands behind it
+
+module _ (mode : Mode) (m rest : List ℕ) (n j : ℕ) (h : n < countOf (widthOf m) (depthOf m)) (l : j < 3) where
+  -- the word at byte 4·j of record n
+  list-word : wordAt (listBytes mode m ++ rest) (12 * n + 4 * j) ≡ wordAt (recordAt mode m n) (4 * j)
+  unfolding listBytes
+  list-word =
+      let c = countOf (widthOf m) (depthOf m) in
+      let f = recordAt mode m in
+      let t = trailerBytes Cut1 (listFields m) in
+      let place : 12 * n + 4 * j ≡ n * 12 + 4 * j = omega arith in
+      ap (wordAt (joined f c ++ t ++ rest)) place
+      ∙ ap (λ (s : List ℕ). wordAt s (n * 12 + 4 * j)) (append-assoc (joined f c) t rest)
+      ∙ joined-word f 12 (length-record mode m) c n (4 * j) (t ++ rest) h (omega arith)
+
+  -- entry j of record n
+  pub list-entry : {room : ℕ} → Accepted m room → entryAt (listBytes mode m ++ rest) n j ≡ coordinate (centreAt mode m n) j
+  unfolding recordAt
+  list-entry s = ap signed list-word ∙ record-entry (centreAt mode m n) (centre-small m s mode n h) j l
+
 -- ---- the buffer
 
--- the word at byte 4·j of record n
-list-word : (mode : Mode) (m out : List ℕ) (n j : ℕ) → n < countOf (widthOf m) (depthOf m) → j < 3
-    → wordAt (splice 0 (listBytes mode m) out) (12 * n + 4 * j) ≡ wordAt (recordAt mode m n) (4 * j)
-unfolding splice listBytes
-list-word mode m out n j h l =
-    let c = countOf (widthOf m) (depthOf m) in
-    let f = recordAt mode m in
-    let t = trailerBytes Cut1 (listFields m) in
-    let rest = drop (0 + length (listBytes mode m)) out in
-    let place : 12 * n + 4 * j ≡ n * 12 + 4 * j = omega arith in
-    ap (wordAt (joined f c ++ t ++ rest)) place
-    ∙ ap (λ (s : List ℕ). wordAt s (n * 12 + 4 * j)) (append-assoc (joined f c) t rest)
-    ∙ joined-word f 12 (length-record mode m) c n (4 * j) (t ++ rest) h (omega arith)
-
 module _ (rounding : ℕ) (m out : List ℕ) (e : listRefusal rounding m (length out) ≡ 0) where
-  -- entry j of record n
   entry-is : (n j : ℕ) → n < countOf (widthOf m) (depthOf m) → j < 3
       → entryAt (bufferAfter rounding m out) n j ≡ coordinate (centreAt (modeOf rounding) m n) j
-  unfolding recordAt
+  unfolding splice
   entry-is n j h l =
       ap (λ (s : List ℕ). entryAt s n j) (accepted-buffer rounding m out e)
-      ∙ ap signed (list-word (modeOf rounding) m out n j h l)
-      ∙ record-entry (centreAt (modeOf rounding) m n) (centre-small m (accepted-of m (length out) (map-asked rounding m (length out) e)) (modeOf rounding) n h) j l
+      ∙ list-entry (modeOf rounding) m (drop (0 + length (listBytes (modeOf rounding) m)) out) n j h l (accepted-of m (length out) (map-asked rounding m (length out) e))
 
   -- what an accepted call leaves
   pub list-held : ListHeld rounding m out

@@ -7,6 +7,8 @@ use lib.IntN.{natAbs}
 use Rattle.words.specs.Word.{wordAt}
 use Rattle.words.specs.Signed.{signed}
 use Rattle.trailer.specs.Kinds.{lengthOf}
+use Rattle.trailer.specs.Bytes.{lastFields}
+use Rattle.trailer.specs.declared.Kind.{Kind}
 use Rattle.trailer.specs.declared.Kind.the-variants.{Plt1}
 use Rattle.trailer.specs.declared.Fields.{Fields}
 use Rattle.cutter.specs.Limits.{bytesLeast, sideLeast, sideMost, stepMost, radiusMost, heightMost}
@@ -26,6 +28,13 @@ pub record Steps (step radius : ℕ) : Type 0 where
   pub step-most : step ≤ stepMost
   pub radius-least : 1 ≤ radius
   pub radius-most : radius ≤ radiusMost
+
+-- 5, 7 and 8 together, and the letters' own, of bytes that end in a trailer of a kind
+pub record Trailed (k : Kind) (m : List ℕ) : Type 0 where
+  pub least : bytesLeast ≤ length m
+  pub fits : lengthOf k ≤ length m
+  pub sizes : Sizes (lastFields k m .width) (lastFields k m .depth)
+  pub steps : Steps (lastFields k m .step) (lastFields k m .radius)
 
 -- question 10, of a map that holds n heights
 pub record Heights (m : List ℕ) (n : ℕ) : Type 0 where

@@ -1,37 +1,20 @@
 -- The list call: its questions, what it answers, and what the lent buffer holds after it. Assumes nothing.
-use Prim.Native.Nat.{ℕ, zero, suc, _+_, _*_}
+use Prim.Native.Nat.{ℕ, zero, suc, _*_}
 use mathlib.Core.Bool.{Bool, true, cond, _&&_}
 use mathlib.Core.List.{List}
 use lib.Dec.{leb, eqb}
 use lib.ListN.{length}
 use lib.IntN.{natAbs}
-use Rattle.kinds.specs.Question.{ask}
+use Rattle.kinds.specs.Question.{ask, thenAsk}
 use Rattle.kinds.specs.Rounding.{isRounding, modeOf}
 use Rattle.words.specs.Word.{wordAt}
 use Rattle.words.specs.Signed.{signed}
 use Rattle.words.specs.Splice.{splice}
-use Rattle.trailer.specs.Kinds.{lengthOf}
-use Rattle.trailer.specs.Bytes.{endsIn}
 use Rattle.trailer.specs.declared.Kind.the-variants.{Plt1}
-use Rattle.cutter.specs.Limits.{bytesLeast, sideLeast, sideMost, stepMost, radiusMost, heightMost}
-use Rattle.cutter.specs.Map.{distanceOf, widthOf, depthOf, stepOf, radiusOf}
+use Rattle.cutter.specs.Limits.{heightMost}
+use Rattle.cutter.specs.Map.{distanceOf, widthOf, depthOf}
+use Rattle.cutter.specs.Sizes.{trailerRefusal, isWhole}
 use Rattle.cutter.specs.List.{listLength, listBytes}
-
--- from low to high
-abbrev pub within : ℕ → ℕ → ℕ → Bool
-within low high x = leb low x && leb x high
-
--- question 7: are w and d each 3 to 64?
-abbrev pub isSized : ℕ → ℕ → Bool
-isSized w d = within sideLeast sideMost w && within sideLeast sideMost d
-
--- question 8: is the step 1 to 10,000 and the radius 1 to 12,500?
-abbrev pub isStepped : ℕ → ℕ → Bool
-isStepped step radius = within 1 stepMost step && within 1 radiusMost radius
-
--- question 9, heights being w·d: is the distance back 4·w·d, and the map that plus the trailer's 16 bytes long?
-abbrev pub isLong : ℕ → ℕ → ℕ → Bool
-isLong distance long heights = eqb distance (4 * heights) && eqb long (4 * heights + lengthOf Plt1)
 
 -- question 10 of the first n heights: is each from −50,000 to 50,000?
 unfoldable pub heightsWithin : List ℕ → ℕ → Bool
@@ -42,17 +25,18 @@ heightsWithin m (suc n) = heightsWithin m n && leb (natAbs (signed (wordAt m (4 
 abbrev pub hasRoom : List ℕ → ℕ → Bool
 hasRoom m room = leb (listLength m) room
 
--- the number of the first question about the map and the buffer that is answered "no", or 0; 5 asks for 16 bytes, 6 for the letters PLT1
-unfoldable pub mapRefusal : List ℕ → ℕ → ℕ
-mapRefusal m room =
-    ask (leb bytesLeast (length m)) 5
-    (ask (endsIn Plt1 m) 6
-    (ask (isSized (widthOf m) (depthOf m)) 7
-    (ask (isStepped (stepOf m) (radiusOf m)) 8
-    (ask (isLong (distanceOf m) (length m) (widthOf m * depthOf m)) 9
+-- questions 9 to 11; 9 asks for four bytes a height
+unfoldable pub heightsRefusal : List ℕ → ℕ → ℕ
+heightsRefusal m room =
+    ask (isWhole Plt1 (4 * (widthOf m * depthOf m)) (distanceOf m) (length m)) 9
     (ask (heightsWithin m (widthOf m * depthOf m)) 10
     (ask (hasRoom m room) 11
-    0))))))
+    0))
+
+-- the number of the first question about the map and the buffer that is answered "no", or 0: those about its trailer, 6 asking for the
+-- letters PLT1, then 9 to 11
+unfoldable pub mapRefusal : List ℕ → ℕ → ℕ
+mapRefusal m room = thenAsk (trailerRefusal Plt1 6 m) (heightsRefusal m room)
 
 -- the same of the call: question 2, and then the map's
 unfoldable pub listRefusal : ℕ → List ℕ → ℕ → ℕ

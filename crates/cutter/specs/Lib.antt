@@ -3,6 +3,7 @@ pub mod Map
 pub mod Offset
 pub mod Centre
 pub mod List
+pub mod Sizes
 pub mod Call
 pub mod Agree
 pub mod Held

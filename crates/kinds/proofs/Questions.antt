@@ -1,7 +1,7 @@
 -- What a question that was passed tells, and the cases of the numbers. Assumes nothing.
-use mathlib.Core.Path.{_≡_, refl}
-use mathlib.Core.Bool.{Bool, true, false}
-use Prim.Native.Nat.{ℕ, suc}
+use mathlib.Core.Path.{_≡_, refl, sym}
+use mathlib.Core.Bool.{Bool, true, false, _&&_, true≢false}
+use Prim.Native.Nat.{ℕ, zero, suc, _≤_}
 use native.Mathlib.Omega.{arith}
 use lib.Dec.{T}
 use borrow.Author.Tests.{ne-eqb}
@@ -9,7 +9,7 @@ use Rattle.kinds.specs.declared.Op.the-variants.{Reciprocal, Root, Inver
 use Rattle.kinds.specs.Operation.{opOf}
 use Rattle.kinds.specs.declared.Mode.the-variants.{Nearest, Up, Down, TowardZero}
 use Rattle.kinds.specs.Rounding.{modeOf}
-use Rattle.kinds.specs.Question.{ask}
+use Rattle.kinds.specs.Question.{ask, thenAsk}
 
 -- a number that is not the question's own came from a later one, and the question was answered yes
 pub later : (t : Bool) (n rest k : ℕ) → (n ≡ k → ⊥) → ask t n rest ≡ k → T t × (rest ≡ k)
@@ -36,11 +36,48 @@ pub ask-no : (t : Bool) (n rest : ℕ) → t ≡ false → n ≡ ask t n rest
 unfolding ask
 ask-no t n rest e = rw e
 
+-- a bound of its number and of what the later ones give bounds what it gives
+pub ask-most : (t : Bool) (n rest k : ℕ) → n ≤ k → rest ≤ k → ask t n rest ≤ k
+unfolding ask
+ask-most true n rest k h l = l
+ask-most false n rest k h l = h
+
 pub sure : (t : Bool) → T t → t ≡ true
 sure true h = refl
 sure false h = absurd h
 
--- the case of a number, by the tests that found it
+-- a test of two parts that is answered yes is so in both
+pub both-are : (a b : Bool) → a && b ≡ true → (a ≡ true) × (b ≡ true)
+both-are true b e = (refl, e)
+both-are false b e = absurd (true≢false (sym e))
+
+-- ---- two groups of questions
+
+-- an earlier number stands
+pub then-first : (a b k : ℕ) → k ≡ a → (k ≡ 0 → ⊥) → k ≡ thenAsk a b
+unfolding thenAsk
+then-first zero b k e h = absurd (h e)
+then-first (suc a) b k e h = e
+
+-- where there is none, the later group decides
+pub then-next : (a b k : ℕ) → a ≡ 0 → k ≡ b → k ≡ thenAsk a b
+unfolding thenAsk
+then-next a b k e f = rw (e, f)
+
+-- a number above all of the earlier group is the later one's
+pub then-later : (a b k : ℕ) → (a ≡ k → ⊥) → thenAsk a b ≡ k → (a ≡ 0) × (b ≡ k)
+unfolding thenAsk
+then-later zero b k h e = (refl, e)
+then-later (suc a) b k h e = absurd (h e)
+
+-- no number at all: none of either
+pub then-none : (a b : ℕ) → thenAsk a b ≡ 0 → (a ≡ 0) × (b ≡ 0)
+unfolding thenAsk
+then-none zero b e = (refl, e)
+then-none (suc a) b e = absurd (let z : suc a ≡ 0 = e in omega arith)
+
+-- ---- the case of a number, by the tests that found it
+
 pub op-first : (n : ℕ) → n ≡ 1 → Reciprocal ≡ opOf n
 op-first n e = rw e
 

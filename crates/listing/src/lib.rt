@@ -10,7 +10,7 @@ ghost use Rattle.cutter.specs.Accepted.{Ready};
 ghost use Rattle.listing.specs.Row.{rowBytes};
 use centres::put_point;
 use kinds::Mode;
-use maps::records_length;
+use sizes::records_length;
 use trailer::Fields;
 use trailer::Kind;
 use trailer::length_of;

@@ -8,47 +8,28 @@ ghost use Rattle.words.specs.Word.{wordAt};
 ghost use Rattle.words.specs.Signed.{signed};
 ghost use Rattle.cutter.specs.Limits.{heightMost};
 ghost use Rattle.cutter.specs.Map.{trailerOf};
-ghost use Rattle.cutter.specs.List.{countOf};
-ghost use Rattle.cutter.specs.Call.{isSized, isStepped, isLong, heightsWithin, mapRefusal};
+ghost use Rattle.cutter.specs.Call.{heightsWithin, heightsRefusal, mapRefusal};
 ghost use Rattle.cutter.specs.Accepted.{Sizes, Heights};
-ghost use Rattle.maps.specs.Asked.{heightsRefusal};
+use sizes::is_whole;
+use sizes::records_length;
 use trailer::Fields;
 use trailer::Kind;
-use trailer::ends_in;
 use trailer::length_of;
 use trailer::read_last;
 use words::word_at;
 
-// The limits of a map's numbers; lengths are micrometres.
-const BYTES_LEAST: usize = 16;
-
-const SIDE_LEAST: usize = 3;
-
-const SIDE_MOST: usize = 64;
-
-const STEP_MOST: u64 = 10000;
-
-const RADIUS_MOST: u64 = 12500;
-
+// A height is from −50,000 to 50,000 micrometres.
 const HEIGHT_MOST: u64 = 50000;
 
 // The number of the first question that is answered "no", or 0; the lent buffer has room for so many bytes.
 pub fn refusal(map: &[u8], room: usize) -> u8
     ensures { λ r. ⌜ r ≡ mapRefusal (now (map .entry)) room ⌝ }
 {
-    if map.len() < BYTES_LEAST {
-        return 5;
-    }
-    if !ends_in(map, Kind::Plt1) {
-        return 6;
+    let refusal = sizes::refusal(map, Kind::Plt1, 6);
+    if refusal != 0 {
+        return refusal;
     }
     let trailer = read_last(map, Kind::Plt1);
-    if !sizes_hold(trailer.width, trailer.depth) {
-        return 7;
-    }
-    if !steps_hold(trailer.step, trailer.radius) {
-        return 8;
-    }
     heights_refusal(map, trailer, room)
 }
 
@@ -59,7 +40,7 @@ fn heights_refusal(map: &[u8], trailer: Fields, room: usize) -> u8
     ensures { λ r. ⌜ r ≡ heightsRefusal (now (map .entry)) room ⌝ }
 {
     let count = trailer.width * trailer.depth;
-    if !long_enough(trailer.distance, map.len(), count) {
+    if !is_whole(Kind::Plt1, 4 * count, trailer.distance, map.len()) {
         return 9;
     }
     if !heights_hold(map, count) {
@@ -69,34 +50,6 @@ fn heights_refusal(map: &[u8], trailer: Fields, room: usize) -> u8
         return 11;
     }
     0
-}
-
-fn sizes_hold(width: usize, depth: usize) -> bool
-    ensures { λ r. ⌜ r ≡ isSized width depth ⌝ }
-{
-    ((SIDE_LEAST <= width) & (width <= SIDE_MOST)) & ((SIDE_LEAST <= depth) & (depth <= SIDE_MOST))
-}
-
-fn steps_hold(step: u64, radius: u64) -> bool
-    ensures { λ r. ⌜ r ≡ isStepped step radius ⌝ }
-{
-    ((1 <= step) & (step <= STEP_MOST)) & ((1 <= radius) & (radius <= RADIUS_MOST))
-}
-
-// Whether the heights reach from the distance back to the trailer.
-fn long_enough(distance: u64, length: usize, count: usize) -> bool
-    requires { ⌜ count ≤ 4096 ⌝ }
-    ensures { λ r. ⌜ r ≡ isLong distance length count ⌝ }
-{
-    (distance == (4 * count) as u64) & (length == 4 * count + length_of(Kind::Plt1))
-}
-
-// How many bytes the records of a map's list have.
-pub fn records_length(width: usize, depth: usize) -> usize
-    requires { ⌜ Sizes width depth ⌝ }
-    ensures { λ r. ⌜ (r ≡ 12 * countOf width depth) × (r ≤ 46128) ⌝ }
-{
-    12 * ((width - 2) * (depth - 2))
 }
 
 // Whether each of the first `count` heights is in its range.

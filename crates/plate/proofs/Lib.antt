@@ -1,3 +1,4 @@
 pub mod Replies
 pub mod Rounded
 pub mod Listed
+pub mod Records

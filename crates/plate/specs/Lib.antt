@@ -2,4 +2,5 @@ pub mod Status
 pub mod Raw
 pub mod Binary32
 pub mod List
+pub mod Record
 pub mod Packed

@@ -1,17 +1,20 @@
-// The calls for C: numbers in, and one number out, whose bits 0 to 31 are the answer, bits 32 to 39 the status, and the bits from 40 on
-// the number of the refusal.
+// The calls for C. Most give one number, whose bits 0 to 31 are the answer, bits 32 to 39 the status, and the bits from 40 on the number
+// of the refusal; the record call gives its reply as it is.
 ghost use mathlib.Core.Path.{_≡_};
 ghost use lib.ListN.{length};
 ghost use Rattle.significand.specs.Call.{rawRefusal, rawAnswer};
 ghost use Rattle.ieee.specs.Call.{binary32Refusal, binary32Bits, binary32Status};
 ghost use Rattle.cutter.specs.Call.{listRefusal, listAnswer, bufferAfter};
 ghost use Rattle.plate.specs.Packed.{packed};
+ghost use Rattle.plate.specs.Record.{recordCall};
 use crate::Operation;
+use crate::RecordReply;
 use crate::Rounding;
 use crate::Status;
 use crate::binary32;
 use crate::list;
 use crate::raw;
+use crate::record;
 
 // The raw call; it has no status, so those bits are 0.
 #[no_mangle]
@@ -44,6 +47,14 @@ pub extern "C" fn plate_list(rounding: u8, map: &[u8], buffer: &mut [u8]) -> u64
 {
     let r = list(Rounding(rounding), map, buffer);
     pack(r.refusal, 0, r.length as u32)
+}
+
+// The record call.
+#[no_mangle]
+pub extern "C" fn plate_record(list: &[u8], index: usize) -> RecordReply
+    ensures { λ r. ⌜ r ≡ recordCall (now (list .entry)) index ⌝ }
+{
+    record(list, index)
 }
 
 // The three numbers of a reply as one.

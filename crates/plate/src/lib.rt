@@ -8,9 +8,12 @@ ghost use Rattle.plate.specs.Status.{raised, cleared};
 ghost use Rattle.plate.specs.Raw.{rawCall};
 ghost use Rattle.plate.specs.Binary32.{binary32Call};
 ghost use Rattle.plate.specs.List.{ListCall};
+ghost use Rattle.plate.specs.Record.{recordCall};
 use kinds::Flags;
 use kinds::Mode;
 use kinds::Op;
+use reader::entry;
+use trailer::Kind;
 
 // An operation by its number.
 pub struct Operation(pub u8);
@@ -149,4 +152,49 @@ pub fn list(rounding: Rounding, map: &[u8], buffer: &mut [u8]) -> ListReply
     }
     let length = listing::put_list(Mode::of(rounding.0), map, buffer);
     ListReply { refusal, length }
+}
+
+// What the record call gives back: refusal 0 with the sizes of the list's trailer and the record's coordinates, in micrometres; or the
+// number of a question, with 0 in every other place.
+#[repr(C)]
+pub struct RecordReply {
+    pub refusal: u8,
+    pub width: u32,
+    pub depth: u32,
+    pub step: u32,
+    pub radius: u32,
+    pub x: i32,
+    pub y: i32,
+    pub z: i32,
+}
+
+// The record call: the sizes of a list, and its record at an index, counted from 0, row by row. The bytes are the list's and no more: as
+// many as the list call reported.
+pub fn record(list: &[u8], index: usize) -> RecordReply
+    ensures { λ r. ⌜ r ≡ recordCall (now (list .entry)) index ⌝ }
+{
+    let refusal = reader::record_refusal(list, index);
+    if refusal != 0 {
+        return RecordReply {
+            refusal,
+            width: 0,
+            depth: 0,
+            step: 0,
+            radius: 0,
+            x: 0,
+            y: 0,
+            z: 0,
+        };
+    }
+    let trailer = trailer::read_last(list, Kind::Cut1);
+    RecordReply {
+        refusal,
+        width: trailer.width as u32,
+        depth: trailer.depth as u32,
+        step: trailer.step as u32,
+        radius: trailer.radius as u32,
+        x: entry(list, index, 0),
+        y: entry(list, index, 1),
+        z: entry(list, index, 2),
+    }
 }

@@ -2,7 +2,7 @@
 use mathlib.Core.Path.{_≡_, refl}
 use mathlib.Core.List.{List, [], _∷_, _++_}
 use Prim.Native.Nat.{ℕ}
-use Rattle.kinds.specs.Question.{ask}
+use Rattle.kinds.specs.Question.{ask, thenAsk}
 use Rattle.kinds.specs.Rounding.{away, placeBy, roundedBy}
 use Rattle.numbers.specs.Greatest.{greatest, greatestFrom}
 use Rattle.words.specs.Joined.{joined}
@@ -12,7 +12,8 @@ use Rattle.cutter.specs.Map.{heightAt, dxAt, dyAt}
 use Rattle.cutter.specs.Offset.{floorOver, placeOver, roundedOver, offsetOf}
 use Rattle.cutter.specs.Centre.{pointAt, centreOf}
 use Rattle.cutter.specs.List.{centreAt, listLength}
-use Rattle.cutter.specs.Call.{heightsWithin, mapRefusal, listRefusal}
+use Rattle.cutter.specs.Sizes.{trailerRefusal}
+use Rattle.cutter.specs.Call.{heightsWithin, heightsRefusal, mapRefusal, listRefusal}
 use Rattle.decimal.specs.Digits.{digitsWithin, decimal, signedDecimal}
 use Rattle.printing.specs.Line.{line}
 use Rattle.text.specs.Text.{sizesLine, listText, refusedText, textRefusal, platelistText}
@@ -28,10 +29,10 @@ trailer = 80 ∷ 76 ∷ 84 ∷ 49 ∷ 36 ∷ 0 ∷ 0 ∷ 0 ∷ 3 ∷ 0 ∷ 3 ∷
 -- "3 3 2000 5000" and "1 1 -1000 2000 5500", a newline behind each
 pub example : platelistText (row ++ row ++ row ++ trailer)
     ≡ 51 ∷ 32 ∷ 51 ∷ 32 ∷ 50 ∷ 48 ∷ 48 ∷ 48 ∷ 32 ∷ 53 ∷ 48 ∷ 48 ∷ 48 ∷ 10 ∷ 49 ∷ 32 ∷ 49 ∷ 32 ∷ 45 ∷ 49 ∷ 48 ∷ 48 ∷ 48 ∷ 32 ∷ 50 ∷ 48 ∷ 48 ∷ 48 ∷ 32 ∷ 53 ∷ 53 ∷ 48 ∷ 48 ∷ 10 ∷ []
-unfolding platelistText textRefusal listText sizesLine line signedDecimal decimal digitsWithin listRefusal mapRefusal ask endsIn lastFields fieldsAt heightsWithin listLength signed joined centreAt centreOf pointAt heightAt dxAt dyAt offsetOf roundedOver placeOver floorOver withSign away placeBy roundedBy greatest greatestFrom
+unfolding platelistText textRefusal listText sizesLine line signedDecimal decimal digitsWithin listRefusal mapRefusal trailerRefusal heightsRefusal thenAsk ask endsIn lastFields fieldsAt heightsWithin listLength signed joined centreAt centreOf pointAt heightAt dxAt dyAt offsetOf roundedOver placeOver floorOver withSign away placeBy roundedBy greatest greatestFrom
 example = refl
 
 -- "refused 5" and a newline
 pub empty : platelistText [] ≡ 114 ∷ 101 ∷ 102 ∷ 117 ∷ 115 ∷ 101 ∷ 100 ∷ 32 ∷ 53 ∷ 10 ∷ []
-unfolding platelistText textRefusal refusedText line signedDecimal decimal digitsWithin listRefusal mapRefusal ask
+unfolding platelistText textRefusal refusedText line signedDecimal decimal digitsWithin listRefusal mapRefusal trailerRefusal thenAsk ask
 empty = refl

@@ -25,7 +25,8 @@ use Rattle.cutter.specs.List.{countOf, columnOf, rowOf, centreAt}
 use Rattle.cutter.specs.Agree.{entryAt}
 use Rattle.cutter.specs.Call.{mapRefusal, listRefusal, bufferAfter}
 use Rattle.cutter.specs.Accepted.{Sizes}
-use Rattle.cutter.proofs.Accepted.{count-most, always-room, map-asked, trailer-fits, sizes-of, held-of}
+use Rattle.cutter.proofs.Counts.{count-most}
+use Rattle.cutter.proofs.Accepted.{always-room, map-asked, trailer-fits, sizes-of, held-of}
 use Rattle.cutter.proofs.Entries.{list-held}
 use Rattle.plate.specs.declared.ListReply.{ListReply}
 use Rattle.plate.specs.List.{ListCall}

@@ -1,4 +1,5 @@
 pub mod Bracket
 pub mod Table
+pub mod ReadBack
 pub mod Sticky
 pub mod Packed

@@ -1,2 +1,3 @@
 pub mod Bracket
 pub mod Table
+pub mod ReadBack

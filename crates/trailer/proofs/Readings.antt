@@ -4,11 +4,12 @@ use mathlib.Core.Bool.{Bool, true, false}
 use mathlib.Core.List.{List}
 use Prim.Native.Nat.{ℕ, _+_, _-_, _≤_, _<_}
 use native.Mathlib.Omega.{arith}
-use borrow.Author.Tests.{le-leb, lt-leb}
-use lib.Dec.{lit<}
+use borrow.Author.Tests.{le-leb, lt-leb, leb-true}
+use lib.Dec.{leb, lit<}
 use lib.ListN.{length}
+use Rattle.kinds.proofs.Questions.{both-are}
 use Rattle.words.specs.Word.{halfAt, wordAt, readsAt}
-use Rattle.trailer.specs.Kinds.{LayoutIs, layoutOf, lengthOf, isWide, isRounded, radiusSize}
+use Rattle.trailer.specs.Kinds.{LayoutIs, layoutOf, lettersOf, lengthOf, isWide, isRounded, radiusSize}
 use Rattle.trailer.specs.Bytes.{fieldsAt, lastFields, endsIn}
 use Rattle.trailer.specs.Reading.{RadiusRead, RoundingRead, TrailerRead, LastRead}
 use Rattle.trailer.specs.declared.Kind.{Kind}
@@ -58,3 +59,8 @@ pub ends-read : (k : Kind) (y : Layout) (m : List ℕ) (r : Bool) → LayoutIs k
 unfolding endsIn
 ends-read k y m r a h p =
     p ∙ ap (λ (y : Layout). readsAt m (length m - y .length) (y .letters)) (a .is) ∙ sym (simp (le-leb (lengthOf k) (length m) (omega arith)))
+
+-- bytes that end in a trailer hold it
+pub ends-fit : (k : Kind) (m : List ℕ) → endsIn k m ≡ true → lengthOf k ≤ length m
+unfolding endsIn
+ends-fit k m e = leb-true (lengthOf k) (length m) (both-are (leb (lengthOf k) (length m)) (readsAt m (length m - lengthOf k) (lettersOf k)) e .0)

@@ -99,6 +99,35 @@ pub fn signed_of(word: u64) -> Signed
     }
 }
 
+// The same as a number of the language.
+pub fn i32_of(word: u64) -> i32
+    requires { ⌜ word < 4294967296 ⌝ }
+    ensures { λ r. ⌜ r ≡ signed word ⌝ }
+{
+    if word < 2147483648 {
+        word as i32
+    } else {
+        -1 - (4294967295 - word) as i32
+    }
+}
+
+// The sign and the magnitude of a number of the language.
+pub fn parts_of(x: i32) -> Signed
+    ensures { λ r. ⌜ r ≡ partsOf x ⌝ }
+{
+    if x < 0 {
+        Signed {
+            negative: true,
+            magnitude: (-1 - x) as u64 + 1,
+        }
+    } else {
+        Signed {
+            negative: false,
+            magnitude: x as u64,
+        }
+    }
+}
+
 // a less b.
 pub fn difference(a: u64, b: u64) -> Signed
     ensures { λ r. ⌜ r ≡ partsOf (subℕ a b) ⌝ }

@@ -1,5 +1,20 @@
 //! The C functions of include/plate.h.
 
+use crate::reference::Reading;
+
+/// The struct plate_record_reply.
+#[repr(C)]
+pub(crate) struct RecordReply {
+    pub refusal: u8,
+    pub width: u32,
+    pub depth: u32,
+    pub step: u32,
+    pub radius: u32,
+    pub x: i32,
+    pub y: i32,
+    pub z: i32,
+}
+
 extern "C" {
     fn plate_raw(operation: u8, significand: u32, parity: u8) -> u64;
     fn plate_binary32(operation: u8, rounding: u8, status: u8, bits: u32) -> u64;
@@ -10,6 +25,7 @@ extern "C" {
         list: *mut u8,
         list_length: usize,
     ) -> u64;
+    fn plate_record(list: *const u8, list_length: usize, index: usize) -> RecordReply;
 }
 
 #[inline]
@@ -25,4 +41,14 @@ pub fn binary32(operation: u8, rounding: u8, status: u8, bits: u32) -> u64 {
 #[inline]
 pub fn list(rounding: u8, map: &[u8], list: &mut [u8]) -> u64 {
     unsafe { plate_list(rounding, map.as_ptr(), map.len(), list.as_mut_ptr(), list.len()) }
+}
+
+#[inline]
+pub fn record(list: &[u8], index: usize) -> Reading {
+    let reply = unsafe { plate_record(list.as_ptr(), list.len(), index) };
+    (
+        reply.refusal,
+        [reply.width, reply.depth, reply.step, reply.radius],
+        [reply.x, reply.y, reply.z],
+    )
 }

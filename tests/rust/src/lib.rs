@@ -4,6 +4,7 @@
 pub mod calls;
 pub mod chance;
 pub mod machine;
+pub mod maps;
 pub mod reference;
 #[cfg(feature = "self")]
 pub mod stand_in;

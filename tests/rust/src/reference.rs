@@ -1,5 +1,6 @@
-//! Document 01 in plain Rust with whole numbers, the three layers in its order.
-//! Each call gives its refusal first, 0 if it was accepted.
+//! Document 01 in plain Rust with whole numbers, the three layers in its order,
+//! and document 02's reader (#101). Each call gives its refusal first, 0 if it was
+//! accepted.
 
 use std::cmp::Ordering;
 use std::sync::LazyLock;
@@ -195,16 +196,28 @@ pub fn binary32(operation: u8, rounding: u8, bits: u32, status: u8) -> (u8, u32,
 
 pub const TRAILER: usize = 16;
 
-fn u16_at(bytes: &[u8], at: usize) -> usize {
-    u16::from_le_bytes([bytes[at], bytes[at + 1]]) as usize
-}
-
 fn four(bytes: &[u8], at: usize) -> [u8; 4] {
     bytes[at..at + 4].try_into().unwrap()
 }
 
+fn i32_at(bytes: &[u8], at: usize) -> i32 {
+    i32::from_le_bytes(four(bytes, at))
+}
+
+/// The letters, the distance back, and w, d, step and radius, from the last 16 bytes
+/// of a map or a list.
+fn trailer(bytes: &[u8]) -> ([u8; 4], usize, [usize; 4]) {
+    let last = &bytes[bytes.len() - TRAILER..];
+    let size = |at| u16::from_le_bytes([last[at], last[at + 1]]) as usize;
+    (four(last, 0), u32::from_le_bytes(four(last, 4)) as usize, [8, 10, 12, 14].map(size))
+}
+
+pub fn record_count(w: usize, d: usize) -> usize {
+    (w - 2) * (d - 2)
+}
+
 pub fn list_length(w: usize, d: usize) -> usize {
-    12 * (w - 2) * (d - 2) + TRAILER
+    12 * record_count(w, d) + TRAILER
 }
 
 /// component * radius / sqrt(square), rounded once.
@@ -225,6 +238,17 @@ fn offset(rounding: u8, component: i64, radius: u64, square: u64) -> i32 {
     }
 }
 
+/// Question 7 or 8 if it is answered "no", else 0.
+fn sizes_refusal([w, d, step, radius]: [usize; 4]) -> u8 {
+    if !(3..=64).contains(&w) || !(3..=64).contains(&d) {
+        return 7;
+    }
+    if !(1..=10_000).contains(&step) || !(1..=12_500).contains(&radius) {
+        return 8;
+    }
+    0
+}
+
 /// The first question of 2 and 5 to 11 that is answered "no", or 0.
 fn list_refusal(rounding: u8, map: &[u8], room: usize) -> u8 {
     if rounding > 3 {
@@ -233,24 +257,19 @@ fn list_refusal(rounding: u8, map: &[u8], room: usize) -> u8 {
     if map.len() < TRAILER {
         return 5;
     }
-    let (heights, trailer) = map.split_at(map.len() - TRAILER);
-    if &trailer[0..4] != b"PLT1" {
+    let (letters, distance, sizes) = trailer(map);
+    if &letters != b"PLT1" {
         return 6;
     }
-    let (w, d) = (u16_at(trailer, 8), u16_at(trailer, 10));
-    if !(3..=64).contains(&w) || !(3..=64).contains(&d) {
-        return 7;
+    if sizes_refusal(sizes) != 0 {
+        return sizes_refusal(sizes);
     }
-    if !(1..=10_000).contains(&u16_at(trailer, 12)) || !(1..=12_500).contains(&u16_at(trailer, 14)) {
-        return 8;
-    }
-    if u32::from_le_bytes(four(trailer, 4)) as usize != 4 * w * d || heights.len() != 4 * w * d {
+    let [w, d, ..] = sizes;
+    if distance != 4 * w * d || map.len() != distance + TRAILER {
         return 9;
     }
-    for at in (0..heights.len()).step_by(4) {
-        if !(-50_000..=50_000).contains(&i32::from_le_bytes(four(heights, at))) {
-            return 10;
-        }
+    if !(0..w * d).all(|k| (-50_000..=50_000).contains(&i32_at(map, 4 * k))) {
+        return 10;
     }
     if room < list_length(w, d) {
         return 11;
@@ -258,17 +277,12 @@ fn list_refusal(rounding: u8, map: &[u8], room: usize) -> u8 {
     0
 }
 
-/// Refusal and length.
-pub fn list(rounding: u8, map: &[u8], list: &mut [u8]) -> (u8, u32) {
-    let refusal = list_refusal(rounding, map, list.len());
-    if refusal != 0 {
-        return (refusal, 0);
-    }
-    let trailer = &map[map.len() - TRAILER..];
-    let (w, d) = (u16_at(trailer, 8), u16_at(trailer, 10));
-    let (step, radius) = (u16_at(trailer, 12) as i64, u16_at(trailer, 14) as u64);
-    let height = |c: usize, row: usize| i32::from_le_bytes(four(map, 4 * (row * w + c)));
-    let mut made = Vec::new();
+/// One centre per inner point of an accepted map, row by row.
+pub fn centres(rounding: u8, map: &[u8]) -> Vec<[i32; 3]> {
+    let (_, _, [w, d, step, radius]) = trailer(map);
+    let (step, radius) = (step as i64, radius as u64);
+    let height = |c: usize, row: usize| i32_at(map, 4 * (row * w + c));
+    let mut centres = Vec::new();
     for row in 1..d - 1 {
         for c in 1..w - 1 {
             let dx = (height(c + 1, row) - height(c - 1, row)) as i64;
@@ -277,15 +291,62 @@ pub fn list(rounding: u8, map: &[u8], list: &mut [u8]) -> (u8, u32) {
             let x = c as i32 * step as i32 + offset(rounding, -dx, radius, square);
             let y = row as i32 * step as i32 + offset(rounding, -dy, radius, square);
             let z = height(c, row) + offset(rounding, 2 * step, radius, square);
-            for number in [x, y, z] {
-                made.extend(number.to_le_bytes());
-            }
+            centres.push([x, y, z]);
         }
     }
+    centres
+}
+
+/// Refusal and length.
+pub fn list(rounding: u8, map: &[u8], list: &mut [u8]) -> (u8, u32) {
+    let refusal = list_refusal(rounding, map, list.len());
+    if refusal != 0 {
+        return (refusal, 0);
+    }
+    let numbers = centres(rounding, map).concat();
+    let mut made: Vec<u8> = numbers.iter().flat_map(|number| number.to_le_bytes()).collect();
     let distance = made.len() as u32;
     made.extend(b"CUT1");
     made.extend(distance.to_le_bytes());
-    made.extend(&trailer[8..16]);
+    made.extend(&map[map.len() - 8..]);
     list[..made.len()].copy_from_slice(&made);
     (0, made.len() as u32)
+}
+
+// ------------------------------------------------- Read a list back (02, #101)
+
+/// Refusal; w, d, step and radius; x, y and z.
+pub type Reading = (u8, [u32; 4], [i32; 3]);
+
+/// The first question of 5, 12, 7, 8 and 13 that is answered "no", or 0.
+fn reader_refusal(list: &[u8]) -> u8 {
+    if list.len() < TRAILER {
+        return 5;
+    }
+    let (letters, distance, sizes) = trailer(list);
+    if &letters != b"CUT1" {
+        return 12;
+    }
+    if sizes_refusal(sizes) != 0 {
+        return sizes_refusal(sizes);
+    }
+    let [w, d, ..] = sizes;
+    if distance != 12 * record_count(w, d) || list.len() != distance + TRAILER {
+        return 13;
+    }
+    0
+}
+
+pub fn record(list: &[u8], index: usize) -> Reading {
+    let refused = |number| (number, [0; 4], [0; 3]);
+    let refusal = reader_refusal(list);
+    if refusal != 0 {
+        return refused(refusal);
+    }
+    let (_, _, sizes) = trailer(list);
+    if index >= record_count(sizes[0], sizes[1]) {
+        return refused(14);
+    }
+    let numbers = [0, 4, 8].map(|at| i32_at(list, 12 * index + at));
+    (0, sizes.map(|size| size as u32), numbers)
 }

@@ -3,6 +3,7 @@
 //! with it says nothing about the library; it says that the references agree
 //! with the machine, with the vector files and among themselves.
 
+use crate::calls::RecordReply;
 use crate::{pack, reference};
 
 #[no_mangle]
@@ -31,4 +32,13 @@ unsafe extern "C" fn plate_list(
     let list = std::slice::from_raw_parts_mut(list, list_length);
     let (refusal, length) = reference::list(rounding, map, list);
     pack(refusal, 0, length)
+}
+
+/// # Safety
+/// The pointer and the length must be those of a live byte range.
+#[no_mangle]
+unsafe extern "C" fn plate_record(list: *const u8, list_length: usize, index: usize) -> RecordReply {
+    let list = std::slice::from_raw_parts(list, list_length);
+    let (refusal, [width, depth, step, radius], [x, y, z]) = reference::record(list, index);
+    RecordReply { refusal, width, depth, step, radius, x, y, z }
 }

@@ -2,6 +2,7 @@
 //! cargo test --release --test list
 
 use plate_tests::chance::Chance;
+use plate_tests::maps::{damage, some_map, Map};
 use plate_tests::reference::{self, DOWN, UP};
 use plate_tests::{calls, pack, vectors};
 
@@ -39,109 +40,13 @@ fn check(rounding: u8, map: &[u8], lent: &[u8]) -> u8 {
     refusal
 }
 
-struct Map {
-    w: usize,
-    d: usize,
-    step: u16,
-    radius: u16,
-    heights: Vec<i32>,
-}
-
-impl Map {
-    fn bytes(&self) -> Vec<u8> {
-        let mut bytes: Vec<u8> = self.heights.iter().flat_map(|height| height.to_le_bytes()).collect();
-        bytes.extend(b"PLT1");
-        bytes.extend((4 * (self.w * self.d) as u32).to_le_bytes());
-        for size in [self.w as u16, self.d as u16, self.step, self.radius] {
-            bytes.extend(size.to_le_bytes());
-        }
-        bytes
-    }
-
-    fn length(&self) -> usize {
-        reference::list_length(self.w, self.d)
-    }
-}
-
-/// An accepted map: small mostly, now and then up to 64 x 64; rough, gentle,
-/// steep, or a plane whose normal has a whole length.
-fn some_map(chance: &mut Chance) -> Map {
-    let most = chance.pick(&[4, 6, 6, 9, 9, 14, 64]);
-    let (w, d) = match chance.range(0, 40) {
-        0 => (64, 64),
-        1 => (3, 64),
-        2 => (64, 3),
-        _ => (chance.range(3, most) as usize, chance.range(3, most) as usize),
-    };
-    let mut step = chance.pick(&[1, 2, 10, 100, 3000, 10_000]);
-    let mut radius = chance.pick(&[1, 10, 1000, 12_500]);
-    if chance.one_in(2) {
-        step = chance.range(1, 10_000);
-        radius = chance.range(1, 12_500);
-    }
-    let kind = chance.range(0, 9);
-    let mut heights: Vec<i32> = Vec::new();
-    if kind == 0 {
-        // Normals of whole length, and a radius that its length divides.
-        let (a, b, c, t) = chance.pick(&[
-            (0, 3, 4, 5), (4, 0, 3, 5), (1, 2, 2, 3), (2, 3, 6, 7), (6, 2, 3, 7),
-            (4, 4, 7, 9), (2, 6, 9, 11), (12, 3, 4, 13), (2, 10, 11, 15), (8, 9, 12, 17),
-        ]);
-        let k = chance.range(1, 30);
-        step = c * k;
-        radius = t * chance.range(1, 12_500 / t);
-        for row in 0..d as i64 {
-            heights.extend((0..w as i64).map(|column| ((a * column - b * row) * k) as i32));
-        }
-        if chance.one_in(3) {
-            let place = chance.range(0, heights.len() as i64 - 1) as usize;
-            heights[place] += 1;
-        }
-    } else {
-        let top = chance.pick(&[0, 1, 2, 10, 300, 5000, 50_000]);
-        heights.extend((0..w * d).map(|_| {
-            let height = if kind == 1 { top * chance.range(-1, 1) } else { chance.range(-top, top) };
-            height as i32
-        }));
-    }
-    Map { w, d, step: step as u16, radius: radius as u16, heights }
-}
-
 /// Damages a map in one of many ways; a few leave it acceptable.
-fn damage(chance: &mut Chance, map: &mut Vec<u8>) {
-    let end = map.len();
-    let field = |chance: &mut Chance| -> [u8; 2] {
-        let size = chance.pick(&[0, 1, 2, 3, 4, 63, 64, 65, 255, 256, 768, 10_000, 10_001, 12_500,
-            12_501, 32_768, 32_771, 65_535]);
-        (size as u16).to_le_bytes()
-    };
+fn damage_map(chance: &mut Chance, map: &mut Vec<u8>) {
     match chance.range(0, 10) {
-        0 => map[end - 16 + chance.range(0, 3) as usize] ^= 1 << chance.range(0, 7),
-        1 => map[end - 12 + chance.range(0, 3) as usize] ^= 1 << chance.range(0, 7),
-        k @ 2..=5 => {
-            let at = end - 8 + 2 * (k as usize - 2);
-            map[at..at + 2].copy_from_slice(&field(chance));
-        }
-        6 => {
-            let count = chance.range(1, 20) as usize;
-            let front = chance.bytes(count);
-            map.splice(0..0, front);
-        }
-        7 => {
-            let count = chance.range(1, 20) as usize;
-            map.extend(chance.bytes(count));
-        }
-        8 => {
-            let count = chance.range(1, end as i64) as usize;
-            if chance.one_in(2) {
-                map.drain(..count);
-            } else {
-                map.truncate(end - count);
-            }
-        }
+        kind @ 0..=8 => damage(chance, kind, map),
         _ => {
             let height = chance.pick(&[50_000, 50_001, -50_000, -50_001, i32::MAX, i32::MIN, 65_536]);
-            let heights = (end - 16) / 4;
+            let heights = (map.len() - 16) / 4;
             let inside = chance.range(0, heights as i64 - 1) as usize;
             let place = 4 * chance.pick(&[0, heights - 1, inside]);
             map[place..place + 4].copy_from_slice(&height.to_le_bytes());
@@ -189,7 +94,7 @@ fn damaged_maps() {
         let mut bytes = map.bytes();
         for _ in 0..chance.pick(&[1, 1, 2, 3]) {
             if bytes.len() >= 20 {
-                damage(&mut chance, &mut bytes);
+                damage_map(&mut chance, &mut bytes);
             }
         }
         let room = some_room(&mut chance, map.length());
@@ -288,11 +193,11 @@ fn vector_file() {
         for (rounding, expected) in frame.expected.iter().enumerate() {
             let mut list = vectors::lent(frame.room);
             let (refusal, length) = reference::list(rounding as u8, &frame.map, &mut list);
-            let got = [refusal as u64, length as u64, vectors::digest(&list)];
+            let got = [refusal as i64, length as i64, vectors::digest(&list)];
             assert_eq!(got, *expected, "reference, frame {number}, rounding {rounding}");
             let mut list = vectors::lent(frame.room);
             let given = call(rounding as u8, &frame.map, &mut list);
-            let got = [given >> 40, given & 0xFF_FFFF_FFFF, vectors::digest(&list)];
+            let got = [(given >> 40) as i64, (given & 0xFF_FFFF_FFFF) as i64, vectors::digest(&list)];
             assert_eq!(got, *expected, "library, frame {number}, rounding {rounding}");
         }
     }

@@ -1,6 +1,5 @@
 -- `maps::heights_refusal` meets its contract: one law for each return, and the sizes bound the products. Assumes nothing.
-use Rattle.maps.proofs.Questions.{size-fits, heights-there, nine, ten, eleven, none}
-use Rattle.cutter.proofs.Counts.{size-most}
+use Rattle.maps.proofs.Questions.{size-fits, bytes-fit, bytes-most, heights-there, nine, ten, eleven, none}
 use borrow.Author.Needs.{needs}
 use Rattle.maps.proofs.heights_refusal.Statement.{statement}
 use Rattle.maps.proofs.heights_refusal.Tie as tie
@@ -8,8 +7,11 @@ use Rattle.maps.proofs.heights_refusal.Tie as tie
 mul-count : tie.Need-mul-count
 mul-count c = search size-fits
 
-long-enough-requires : tie.Need-long-enough-requires
-long-enough-requires c κs = search size-most
+mul-is-whole : tie.Need-mul-is-whole
+mul-is-whole c = search bytes-fit
+
+is-whole-requires : tie.Need-is-whole-requires
+is-whole-requires c κs = search bytes-most
 
 returns : tie.Need-returns
 returns c = search nine
@@ -40,7 +42,8 @@ heights-refusal-spec =
     tie.close
     (tie.spec
     mul-count
-    long-enough-requires
+    mul-is-whole
+    is-whole-requires
     returns
     heights-hold-requires
     returns-2

@@ -1,50 +1,25 @@
--- `maps::refusal` meets its contract: one law for each return. Assumes nothing.
-use Rattle.maps.proofs.Questions.{five, six, seven, eight, later, sizes-told}
+-- `maps::refusal` meets its contract: the number that the trailer gets, or else the one that the heights get. Assumes nothing.
+use Rattle.maps.proofs.Questions.{asked, trailer-fits, sizes-told, later}
 use borrow.Author.Needs.{needs}
 use Rattle.maps.proofs.refusal.Statement.{statement}
 use Rattle.maps.proofs.refusal.Tie as tie
 
+refusal-requires : tie.Need-refusal-requires
+refusal-requires c κs = search needs
+
 returns : tie.Need-returns
-returns c = search five
-
-ends-in-requires : tie.Need-ends-in-requires
-ends-in-requires c κs = search needs
-
-returns-2 : tie.Need-returns-2
-returns-2 c = search six
+returns c = search asked
 
 read-last-requires : tie.Need-read-last-requires
-read-last-requires c κs = search needs
-
-sizes-hold-requires : tie.Need-sizes-hold-requires
-sizes-hold-requires c κs = search needs
-
-returns-3 : tie.Need-returns-3
-returns-3 c = search seven
-
-steps-hold-requires : tie.Need-steps-hold-requires
-steps-hold-requires c κs = search needs
-
-returns-4 : tie.Need-returns-4
-returns-4 c = search eight
+read-last-requires c κs = search trailer-fits
 
 heights-refusal-requires : tie.Need-heights-refusal-requires
 heights-refusal-requires c κs = (search needs, search sizes-told)
 
-returns-5 : tie.Need-returns-5
-returns-5 c = search later
+returns-2 : tie.Need-returns-2
+returns-2 c = search later
 
 pub refusal-spec : {M : Type 1} → statement M
 refusal-spec =
     tie.close
-    (tie.spec
-    returns
-    ends-in-requires
-    returns-2
-    read-last-requires
-    sizes-hold-requires
-    returns-3
-    steps-hold-requires
-    returns-4
-    heights-refusal-requires
-    returns-5)
+    (tie.spec refusal-requires returns read-last-requires heights-refusal-requires returns-2)

@@ -1,0 +1,31 @@
+-- What the record call gives back. Assumes nothing.
+use Prim.Native.Nat.{ℕ}
+use mathlib.Core.Bool.{cond}
+use mathlib.Core.List.{List}
+use lib.Dec.{eqb}
+use lib.IntN.{pos}
+use Rattle.cutter.specs.Agree.{entryAt}
+use Rattle.reader.specs.Reader.{trailerOf, recordRefusal}
+use Rattle.plate.specs.declared.RecordReply.{RecordReply}
+
+-- after a "no" its number, and 0 in every other place
+abbrev pub refusedRecord : ℕ → RecordReply
+refusedRecord number =
+    record { refusal = number; width = 0; depth = 0; step = 0; radius = 0; x = pos 0; y = pos 0; z = pos 0 }
+
+-- else the trailer's four sizes, and the record's x, y and z as signed numbers
+abbrev pub recordRead : List ℕ → ℕ → RecordReply
+recordRead b index =
+    record {
+      refusal = 0;
+      width = trailerOf b .width;
+      depth = trailerOf b .depth;
+      step = trailerOf b .step;
+      radius = trailerOf b .radius;
+      x = entryAt b index 0;
+      y = entryAt b index 1;
+      z = entryAt b index 2;
+    }
+
+unfoldable pub recordCall : List ℕ → ℕ → RecordReply
+recordCall b index = cond (eqb (recordRefusal b index) 0) (recordRead b index) (refusedRecord (recordRefusal b index))

@@ -1,0 +1,31 @@
+-- Reading a list back: the questions that its bytes are asked, and then an index. Assumes nothing.
+use Prim.Native.Nat.{ℕ, _*_}
+use mathlib.Core.List.{List}
+use lib.Dec.{ltb}
+use lib.ListN.{length}
+use Rattle.kinds.specs.Question.{ask, thenAsk}
+use Rattle.trailer.specs.Bytes.{lastFields}
+use Rattle.trailer.specs.declared.Kind.the-variants.{Cut1}
+use Rattle.trailer.specs.declared.Fields.{Fields}
+use Rattle.cutter.specs.List.{countOf}
+use Rattle.cutter.specs.Sizes.{trailerRefusal, isWhole}
+
+-- the trailer, of the kind CUT1, is what a list ends in
+abbrev pub trailerOf : List ℕ → Fields
+trailerOf b = lastFields Cut1 b
+
+-- how many records a list has, by its w and d
+abbrev pub recordsOf : List ℕ → ℕ
+recordsOf b = countOf (trailerOf b .width) (trailerOf b .depth)
+
+-- the number of the first question about the bytes that is answered "no", or 0: those about the trailer, 12 asking for the letters CUT1,
+-- and 13, which asks for twelve bytes a record
+unfoldable pub readerRefusal : List ℕ → ℕ
+readerRefusal b =
+    thenAsk (trailerRefusal Cut1 12 b)
+    (ask (isWhole Cut1 (12 * recordsOf b) (trailerOf b .distance) (length b)) 13
+    0)
+
+-- the same where the record at an index is asked for, from 0, row by row: last, 14, is the index below the number of records?
+unfoldable pub recordRefusal : List ℕ → ℕ → ℕ
+recordRefusal b index = thenAsk (readerRefusal b) (ask (ltb index (recordsOf b)) 14 0)
