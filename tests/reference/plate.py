@@ -336,18 +336,27 @@ def binary32_refusal(operation, rounding):
     return 0
 
 
-def list_refusal(rounding, map_bytes, buffer_length):
-    if not rounding_known(rounding):
-        return 2
-    if not len(map_bytes) >= TRAILER:
+def trailer_refusal(some_bytes, name, number):
+    """What a map and a list are asked alike; the letters have a number of their own."""
+    if not len(some_bytes) >= TRAILER:
         return 5
-    if not letters(map_bytes) == b"PLT1":
-        return 6
-    w, d, step, radius = sizes(map_bytes)
+    if not letters(some_bytes) == name:
+        return number
+    w, d, step, radius = sizes(some_bytes)
     if not width_and_depth_fit(w, d):
         return 7
     if not step_and_radius_fit(step, radius):
         return 8
+    return 0
+
+
+def list_refusal(rounding, map_bytes, buffer_length):
+    if not rounding_known(rounding):
+        return 2
+    refusal = trailer_refusal(map_bytes, b"PLT1", 6)
+    if refusal:
+        return refusal
+    w, d, _, _ = sizes(map_bytes)
     if not body_agrees(map_bytes, 4*w*d):
         return 9
     if not all(-50000 <= height <= 50000 for height in heights(map_bytes)):
@@ -359,15 +368,10 @@ def list_refusal(rounding, map_bytes, buffer_length):
 
 def reader_refusal(list_bytes):
     """What the reader asks of a list before it looks at the index."""
-    if not len(list_bytes) >= TRAILER:
-        return 5
-    if not letters(list_bytes) == b"CUT1":
-        return 12
-    w, d, step, radius = sizes(list_bytes)
-    if not width_and_depth_fit(w, d):
-        return 7
-    if not step_and_radius_fit(step, radius):
-        return 8
+    refusal = trailer_refusal(list_bytes, b"CUT1", 12)
+    if refusal:
+        return refusal
+    w, d, _, _ = sizes(list_bytes)
     if not body_agrees(list_bytes, 12 * record_count(w, d)):
         return 13
     return 0
