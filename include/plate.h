@@ -1,4 +1,5 @@
-/* The plate unit, called from C. Documents 01 and 02 say what each call answers.
+/* The plate unit, called from C. Document 01 and request #101 of document 02 say
+   what each call answers.
 
    Every call takes every value of its numbers and checks them itself. All but
    plate_record give one 64-bit number:
@@ -40,7 +41,7 @@ extern "C" {
 #define PLATE_UNDERFLOW 8
 #define PLATE_INEXACT 16
 
-/* The parts of what a call gives */
+/* The parts of the 64-bit number */
 #define PLATE_ANSWER(given) ((uint32_t)(given))
 #define PLATE_STATUS(given) ((uint8_t)((given) >> 32))
 #define PLATE_REFUSAL(given) ((uint8_t)((given) >> 40))
@@ -62,9 +63,9 @@ uint64_t plate_list(uint8_t rounding, const uint8_t *map, size_t map_length,
                     uint8_t *list, size_t list_length);
 
 /* What plate_record gives: refusal 0 with the sizes that the list's trailer
-   states and the coordinates of one record, all in micrometres but width and
-   depth, which count the map's points; or a refusal, and 0 in every other
-   place. */
+   states and the coordinates of one record; or a refusal, and 0 in every other
+   place. Width and depth are the map's columns and rows; the other numbers are
+   micrometres. */
 struct plate_record_reply {
   uint8_t refusal;
   uint32_t width;

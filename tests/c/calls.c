@@ -53,10 +53,16 @@ static const uint8_t list[28] = {
     'C', 'U', 'T', '1', 12, 0, 0, 0, 3, 0, 3, 0, 0xD0, 0x07, 0x88, 0x13,
 };
 
+/* 4 x 3: no two of its numbers are equal, and its second record has both ends of them, which no map yields. */
+static const uint8_t apart[40] = {
+    0, 0, 0, 0, 0, 0, 0, 0, 0, 0, 0, 0,
+    0, 0, 0, 0x80, 0xFF, 0xFF, 0xFF, 0x7F, 0xFF, 0xFF, 0xFF, 0xFF,
+    'C', 'U', 'T', '1', 24, 0, 0, 0, 4, 0, 3, 0, 0xD0, 0x07, 0x88, 0x13,
+};
+
 int main(void)
 {
     uint8_t buffer[29];
-    uint8_t any[28];
 
     EXPECT(plate_raw(PLATE_RECIPROCAL, 12582912, 0), 178956970, 0, 0);
     EXPECT(plate_raw(PLATE_ROOT, 8388608, 1), 379625062, 0, 0);
@@ -87,9 +93,6 @@ int main(void)
     if (memcmp(buffer, list, sizeof list) != 0 || buffer[28] != 0xAA)
         return 1;
 
-    /* Both ends of a record's numbers, which no map yields. */
-    memcpy(any, list, sizeof any);
-    memcpy(any, "\0\0\0\200\377\377\377\177\377\377\377\377", 12);
-    EXPECT_RECORD(plate_record(any, sizeof any, 0), 0, 3, 3, 2000, 5000, INT32_MIN, INT32_MAX, -1);
+    EXPECT_RECORD(plate_record(apart, sizeof apart, 1), 0, 4, 3, 2000, 5000, INT32_MIN, INT32_MAX, -1);
     return 0;
 }

@@ -33,9 +33,9 @@ module _ (m : List ℕ) {room : ℕ} (a : Accepted m room) where
   -- the lists are equal where the map is exact
   lists-equal : (listBytes Down m ≡ listBytes Up m) ↔ ExactMap m
   lists-equal = (
-    λ e. at-every m (λ (p : Point). ExactAt (stepOf m) (radiusOf m) p) (a .sizes .wide)
+    λ e. at-every m (λ (p : Point). ExactAt (stepOf m) (radiusOf m) p) (a .trailed .sizes .wide)
         (λ n h. centres-equal n h .0 (same-centres Down Up m a e n h)),
-    λ x. same-bytes Down Up m (λ n h. centres-equal n h .1 (x _ _ (inner-at (widthOf m) (depthOf m) (a .sizes .wide) n h))),
+    λ x. same-bytes Down Up m (λ n h. centres-equal n h .1 (x _ _ (inner-at (widthOf m) (depthOf m) (a .trailed .sizes .wide) n h))),
   )
 
   -- coordinates that differ are one apart

@@ -9,9 +9,9 @@ use Rattle.kinds.specs.declared.Mode.the-variants.{Up, Down}
 use Rattle.cutter.specs.Offset.{offsetOf, MultipleOf}
 use Rattle.cutter.specs.Map.{widthOf, depthOf}
 use Rattle.cutter.specs.Centre.{Point, coordinate, centreOf}
-use Rattle.cutter.specs.List.{countOf, listLength}
+use Rattle.cutter.specs.List.{countOf, listLength, entryAt}
 use Rattle.cutter.specs.Call.{bufferAfter}
-use Rattle.cutter.specs.Agree.{ExactAt, ExactMap, entryAt}
+use Rattle.cutter.specs.Agree.{ExactAt, ExactMap}
 
 -- q is a perfect square whose root divides n
 pub record DividedBy (q n : ℕ) : Type 0 where

@@ -6,7 +6,7 @@ use Prim.Native.Nat.{ℕ, zero, suc, _+_, _*_, _≤_, _<_}
 use native.Mathlib.Nat.{not-suc-le-zero}
 use native.Mathlib.Omega.{arith}
 use borrow.Author.Tests.{not-true, not-false, le-leb, leb-true, eqb-true, eq-eqb, ne-eqb}
-use lib.Dec.{leb, eqb}
+use lib.Dec.{leb, eqb, lit<}
 use lib.ListN.{length}
 use lib.IntN.{natAbs}
 use Rattle.kinds.specs.Rounding.{isRounding, modeOf}
@@ -36,7 +36,7 @@ within-is low high x e =
     let p = both-are (leb low x) (leb x high) e in
     (leb-true low x (p .0), leb-true x high (p .1))
 
-pub sizes-are : (w d : ℕ) → isSized w d ≡ true → Sizes w d
+sizes-are : (w d : ℕ) → isSized w d ≡ true → Sizes w d
 sizes-are w d e =
     let p = both-are (within sideLeast sideMost w) (within sideLeast sideMost d) e in
     let x = within-is sideLeast sideMost w (p .0) in
@@ -55,10 +55,10 @@ steps-are step radius e =
 within-yes : (low high x : ℕ) → low ≤ x → x ≤ high → within low high x ≡ true
 within-yes low high x h k = simp (le-leb low x h, le-leb x high k)
 
-are-sized : (w d : ℕ) → Sizes w d → isSized w d ≡ true
+pub are-sized : (w d : ℕ) → Sizes w d → isSized w d ≡ true
 are-sized w d s = simp (within-yes sideLeast sideMost w (s .wide) (s .narrow), within-yes sideLeast sideMost d (s .deep) (s .shallow))
 
-are-stepped : (step radius : ℕ) → Steps step radius → isStepped step radius ≡ true
+pub are-stepped : (step radius : ℕ) → Steps step radius → isStepped step radius ≡ true
 are-stepped step radius s =
     simp (within-yes 1 stepMost step (s .step-least) (s .step-most), within-yes 1 radiusMost radius (s .radius-least) (s .radius-most))
 
@@ -78,36 +78,41 @@ heights-small m (suc n) e i h =
 -- ---- the questions about a trailer
 
 -- what they tell, whichever number the letters' question has
-pub trailed-of : (k : Kind) (letters : ℕ) (m : List ℕ) → trailerRefusal k (suc letters) m ≡ 0 → Trailed k m
-unfolding trailerRefusal endsIn
-trailed-of k letters m e =
+pub trailed-of : (k : Kind) (number : ℕ) (m : List ℕ) → 0 < number → trailerRefusal k number m ≡ 0 → Trailed k m
+unfolding trailerRefusal
+trailed-of k number m h e =
     let t : Fields = lastFields k m in
     let a5 = yes (leb bytesLeast (length m)) 4 _ e in
-    let a6 = yes (endsIn k m) letters _ (a5 .1) in
+    let a6 = later (endsIn k m) number _ 0 (λ z. omega arith) (a5 .1) in
     let a7 = yes (isSized (t .width) (t .depth)) 6 _ (a6 .1) in
     let a8 = yes (isStepped (t .step) (t .radius)) 7 0 (a7 .1) in
     record {
-      least = leb-true bytesLeast (length m) (sure _ (a5 .0));
       fits = ends-fit k m (sure _ (a6 .0));
       sizes = sizes-are (t .width) (t .depth) (sure _ (a7 .0));
       steps = steps-are (t .step) (t .radius) (sure _ (a8 .0));
     }
 
+-- so of the trailer as it was read
+module _ (k : Kind) (number : ℕ) (m : List ℕ) (n : ℕ) (h : 0 < number) (e : n ≡ trailerRefusal k number m) (z : n ≡ 0) where
+  pub ending-fits : lengthOf k ≤ length m
+  ending-fits = trailed-of k number m h (sym e ∙ z) .fits
+
+  pub ending-sizes : (t : Fields) → t ≡ lastFields k m → Sizes (t .width) (t .depth)
+  ending-sizes t f = rw f (trailed-of k number m h (sym e ∙ z) .sizes)
+
 -- and what answers them all "yes"
-pub trailer-yes : (k : Kind) (letters : ℕ) (m : List ℕ) → bytesLeast ≤ length m → endsIn k m ≡ true
-    → Sizes (lastFields k m .width) (lastFields k m .depth) → Steps (lastFields k m .step) (lastFields k m .radius) → 0 ≡ trailerRefusal k letters m
+pub trailer-yes : (k : Kind) (number : ℕ) (m : List ℕ) → bytesLeast ≤ length m → endsIn k m ≡ true
+    → isSized (lastFields k m .width) (lastFields k m .depth) ≡ true → isStepped (lastFields k m .step) (lastFields k m .radius) ≡ true
+    → 0 ≡ trailerRefusal k number m
 unfolding trailerRefusal
-trailer-yes k letters m h e s t =
-    ask-yes _ 5 _ 0 (le-leb bytesLeast (length m) h)
-    (ask-yes _ letters _ 0 e
-    (ask-yes _ 7 _ 0 (are-sized (lastFields k m .width) (lastFields k m .depth) s)
-    (ask-yes _ 8 0 0 (are-stepped (lastFields k m .step) (lastFields k m .radius) t) refl)))
+trailer-yes k number m h e s t =
+    ask-yes _ 5 _ 0 (le-leb bytesLeast (length m) h) (ask-yes _ number _ 0 e (ask-yes _ 7 _ 0 s (ask-yes _ 8 0 0 t refl)))
 
 -- they give no number above 8 and their own
-pub trailer-most : (k : Kind) (letters : ℕ) (m : List ℕ) (n : ℕ) → 8 ≤ n → letters ≤ n → trailerRefusal k letters m ≤ n
+trailer-most : (k : Kind) (number : ℕ) (m : List ℕ) (n : ℕ) → 8 ≤ n → number ≤ n → trailerRefusal k number m ≤ n
 unfolding trailerRefusal
-trailer-most k letters m n h l =
-    ask-most _ 5 _ n (omega arith) (ask-most _ letters _ n l (ask-most _ 7 _ n (omega arith) (ask-most _ 8 0 n h (omega arith))))
+trailer-most k number m n h l =
+    ask-most _ 5 _ n (omega arith) (ask-most _ number _ n l (ask-most _ 7 _ n (omega arith) (ask-most _ 8 0 n h (omega arith))))
 
 -- the bytes are as many as the sizes ask for
 pub whole-long : (k : Kind) (before distance long : ℕ) → isWhole k before distance long ≡ true → long ≡ before + lengthOf k
@@ -124,15 +129,12 @@ accepted-of m room e =
     let w : ℕ = widthOf m in
     let d : ℕ = depthOf m in
     let both = then-none (trailerRefusal Plt1 6 m) (heightsRefusal m room) e in
-    let t = trailed-of Plt1 5 m (both .0) in
     let a9 = yes (isWhole Plt1 (4 * (w * d)) (distanceOf m) (length m)) 8 _ (both .1) in
     let a10 = yes (heightsWithin m (w * d)) 9 _ (a9 .1) in
     let a11 = yes (hasRoom m room) 10 0 (a10 .1) in
     let long : length m ≡ 4 * (w * d) + lengthOf Plt1 = whole-long Plt1 (4 * (w * d)) (distanceOf m) (length m) (sure _ (a9 .0)) in
     record {
-      least = t .least;
-      sizes = t .sizes;
-      steps = t .steps;
+      trailed = trailed-of Plt1 6 m (lit< tt) (both .0);
       long = long;
       heights = record { held = omega arith; small = heights-small m (w * d) (sure _ (a10 .0)) };
       held = leb-true (listLength m) room (sure _ (a11 .0));
@@ -147,7 +149,7 @@ always-room m room h e =
     let both = then-later (trailerRefusal Plt1 6 m) (heightsRefusal m room) 11 (λ z. omega (arith, trailer-most Plt1 6 m 8 (omega arith) (omega arith))) e in
     let a9 = later (isWhole Plt1 (4 * (w * d)) (distanceOf m) (length m)) 9 _ 11 (λ z. omega arith) (both .1) in
     let a10 = later (heightsWithin m (w * d)) 10 _ 11 (λ z. omega arith) (a9 .1) in
-    let most = count-most w d (trailed-of Plt1 5 m (both .0) .sizes) in
+    let most = count-most w d (trailed-of Plt1 6 m (lit< tt) (both .0) .sizes) in
     let room-is : hasRoom m room ≡ true = le-leb (12 * countOf w d + lengthOf Cut1) room (omega (arith, most)) in
     let zero-is : _≡_ {A = ℕ} 0 11 = ask-yes (hasRoom m room) 11 0 0 room-is refl ∙ a10 .1 in
     omega arith
@@ -155,13 +157,13 @@ always-room m room h e =
 -- what the code reads of an accepted map
 module _ (m : List ℕ) (room : ℕ) (z : mapRefusal m room ≡ 0) where
   pub trailer-fits : lengthOf Plt1 ≤ length m
-  trailer-fits = accepted-of m room z .least
+  trailer-fits = accepted-of m room z .trailed .fits
 
   module _ (t : Fields) (e : t ≡ trailerOf m) where
     pub ready-of : Ready m t
     ready-of =
         let a = accepted-of m room z in
-        record { is = e; sizes = rw e (a .sizes); steps = rw e (a .steps); heights = rw e (a .heights) }
+        record { is = e; sizes = rw e (a .trailed .sizes); steps = rw e (a .trailed .steps); heights = rw e (a .heights) }
 
     pub sizes-of : Sizes (t .width) (t .depth)
     sizes-of = ready-of .sizes

@@ -18,9 +18,8 @@ use Rattle.trailer.specs.Bytes.{trailerBytes}
 use Rattle.trailer.specs.declared.Kind.the-variants.{Cut1}
 use Rattle.cutter.specs.Map.{widthOf, depthOf}
 use Rattle.cutter.specs.Centre.{Centre, coordinate, recordBytes}
-use Rattle.cutter.specs.List.{countOf, centreAt, recordAt, listFields, listBytes}
+use Rattle.cutter.specs.List.{countOf, centreAt, recordAt, listFields, listBytes, entryAt}
 use Rattle.cutter.specs.Call.{listRefusal, bufferAfter}
-use Rattle.cutter.specs.Agree.{entryAt}
 use Rattle.cutter.specs.Held.{ListHeld}
 use Rattle.cutter.specs.Accepted.{Accepted}
 use Rattle.cutter.proofs.Lengths.{length-record, length-list}

@@ -120,11 +120,11 @@ module _ (m : List ℕ) {room : ℕ} (a : Accepted m room) where
       let d = depthOf m in
       let c = columnOf w n in
       let q = rowOf w n in
-      let i : Inner w d c q = inner-at w d (a .sizes .wide) n h in
+      let i : Inner w d c q = inner-at w d (a .trailed .sizes .wide) n h in
       record {
-        steps = a .steps;
-        column-to = omega (arith, a .sizes .narrow);
-        row-to = omega (arith, a .sizes .shallow);
+        steps = a .trailed .steps;
+        column-to = omega (arith, a .trailed .sizes .narrow);
+        row-to = omega (arith, a .trailed .sizes .shallow);
         height-to = height-small c q (omega arith) (omega arith);
       }
 

@@ -11,8 +11,8 @@ use Rattle.trailer.specs.Bytes.{lastFields}
 use Rattle.trailer.specs.declared.Kind.{Kind}
 use Rattle.trailer.specs.declared.Kind.the-variants.{Plt1}
 use Rattle.trailer.specs.declared.Fields.{Fields}
-use Rattle.cutter.specs.Limits.{bytesLeast, sideLeast, sideMost, stepMost, radiusMost, heightMost}
-use Rattle.cutter.specs.Map.{trailerOf, widthOf, depthOf, stepOf, radiusOf}
+use Rattle.cutter.specs.Limits.{sideLeast, sideMost, stepMost, radiusMost, heightMost}
+use Rattle.cutter.specs.Map.{trailerOf, widthOf, depthOf}
 use Rattle.cutter.specs.List.{listLength}
 
 -- question 7
@@ -29,9 +29,8 @@ pub record Steps (step radius : ℕ) : Type 0 where
   pub radius-least : 1 ≤ radius
   pub radius-most : radius ≤ radiusMost
 
--- 5, 7 and 8 together, and the letters' own, of bytes that end in a trailer of a kind
+-- those, of bytes that end in a trailer of a kind
 pub record Trailed (k : Kind) (m : List ℕ) : Type 0 where
-  pub least : bytesLeast ≤ length m
   pub fits : lengthOf k ≤ length m
   pub sizes : Sizes (lastFields k m .width) (lastFields k m .depth)
   pub steps : Steps (lastFields k m .step) (lastFields k m .radius)
@@ -43,9 +42,7 @@ pub record Heights (m : List ℕ) (n : ℕ) : Type 0 where
 
 -- all of them, of a map and a buffer with so much room
 pub record Accepted (m : List ℕ) (room : ℕ) : Type 0 where
-  pub least : bytesLeast ≤ length m
-  pub sizes : Sizes (widthOf m) (depthOf m)
-  pub steps : Steps (stepOf m) (radiusOf m)
+  pub trailed : Trailed Plt1 m
   pub long : length m ≡ 4 * (widthOf m * depthOf m) + lengthOf Plt1
   pub heights : Heights m (widthOf m * depthOf m)
   pub held : listLength m ≤ room

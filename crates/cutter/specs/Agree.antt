@@ -1,10 +1,8 @@
 -- Where the lower and the upper list of a map agree. Assumes nothing.
-use Prim.Native.Nat.{ℕ, _+_, _*_}
+use Prim.Native.Nat.{ℕ, _*_}
 use mathlib.Core.Path.{_≡_}
 use mathlib.Core.List.{List}
-use lib.IntN.{ℤ, natAbs}
-use Rattle.words.specs.Word.{wordAt}
-use Rattle.words.specs.Signed.{signed}
+use lib.IntN.{natAbs}
 use Rattle.cutter.specs.Offset.{squaredLength, MultipleOf}
 use Rattle.cutter.specs.Map.{Inner, widthOf, depthOf, stepOf, radiusOf}
 use Rattle.cutter.specs.Centre.{Point, pointAt}
@@ -20,7 +18,3 @@ pub record ExactAt (step radius : ℕ) (p : Point) : Type 0 where
 -- it is so at every inner point of a map
 abbrev pub ExactMap : List ℕ → Type 0
 ExactMap m = (c q : ℕ) → Inner (widthOf m) (depthOf m) c q → ExactAt (stepOf m) (radiusOf m) (pointAt m (widthOf m) c q)
-
--- the x, y or z (j is 0, 1 or 2) of record n in the bytes of a list, as a signed number
-abbrev pub entryAt : List ℕ → ℕ → ℕ → ℤ
-entryAt bytes n j = signed (wordAt bytes (12 * n + 4 * j))

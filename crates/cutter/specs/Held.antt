@@ -6,9 +6,8 @@ use lib.ListN.{length, take, drop}
 use Rattle.kinds.specs.Rounding.{modeOf}
 use Rattle.cutter.specs.Map.{widthOf, depthOf}
 use Rattle.cutter.specs.Centre.{coordinate}
-use Rattle.cutter.specs.List.{countOf, centreAt, listLength, listBytes}
+use Rattle.cutter.specs.List.{countOf, centreAt, listLength, listBytes, entryAt}
 use Rattle.cutter.specs.Call.{listAnswer, bufferAfter}
-use Rattle.cutter.specs.Agree.{entryAt}
 
 -- the length reported is the list's; the list stands at the buffer's front, entry j of record n being coordinate j of the centre n, and
 -- the caller's bytes stand behind it

@@ -1,7 +1,7 @@
--- The limits of a map's numbers; lengths are micrometres. Assumes nothing.
+-- The limits of the numbers of a map and of a list; lengths are micrometres. Assumes nothing.
 use Prim.Native.Nat.{ℕ, _*_}
 
--- a map has 16 bytes or more
+-- a map or a list has 16 bytes or more
 abbrev pub bytesLeast : ℕ
 bytesLeast = 16
 

@@ -1,7 +1,10 @@
 -- The list of a map: one record per inner point, row by row, then a trailer. Assumes nothing.
 use Prim.Native.Nat.{ℕ, _+_, _-_, _*_, _/_, _%_}
 use mathlib.Core.List.{List, _++_}
+use lib.IntN.{ℤ}
 use Rattle.kinds.specs.declared.Mode.{Mode}
+use Rattle.words.specs.Word.{wordAt}
+use Rattle.words.specs.Signed.{signed}
 use Rattle.words.specs.Joined.{joined}
 use Rattle.trailer.specs.Kinds.{lengthOf}
 use Rattle.trailer.specs.Bytes.{trailerBytes}
@@ -52,3 +55,7 @@ listLength m = 12 * countOf (widthOf m) (depthOf m) + lengthOf Cut1
 -- the complete list: its records, and a trailer of the kind CUT1
 unfoldable pub listBytes : Mode → List ℕ → List ℕ
 listBytes mode m = joined (recordAt mode m) (countOf (widthOf m) (depthOf m)) ++ trailerBytes Cut1 (listFields m)
+
+-- the x, y or z (j is 0, 1 or 2) of record n in the bytes of a list, as a signed number
+abbrev pub entryAt : List ℕ → ℕ → ℕ → ℤ
+entryAt bytes n j = signed (wordAt bytes (12 * n + 4 * j))

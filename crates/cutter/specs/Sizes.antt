@@ -8,10 +8,9 @@ use Rattle.kinds.specs.Question.{ask}
 use Rattle.trailer.specs.Kinds.{lengthOf}
 use Rattle.trailer.specs.Bytes.{lastFields, endsIn}
 use Rattle.trailer.specs.declared.Kind.{Kind}
-use Rattle.trailer.specs.declared.Fields.{Fields}
 use Rattle.cutter.specs.Limits.{bytesLeast, sideLeast, sideMost, stepMost, radiusMost}
 
--- from low to high
+-- whether x is from low to high
 abbrev pub within : ℕ → ℕ → ℕ → Bool
 within low high x = leb low x && leb x high
 
@@ -23,16 +22,15 @@ isSized w d = within sideLeast sideMost w && within sideLeast sideMost d
 abbrev pub isStepped : ℕ → ℕ → Bool
 isStepped step radius = within 1 stepMost step && within 1 radiusMost radius
 
--- the number of the first that is answered "no", or 0: 5 asks for 16 bytes, a number of its own for the letters of the kind, then 7 and 8
+-- the number of the first that is answered "no", or 0: 5 asks for 16 bytes, the number given for the kind's letters, then 7 and 8
 unfoldable pub trailerRefusal : Kind → ℕ → List ℕ → ℕ
-trailerRefusal k letters m =
+trailerRefusal k number m =
     ask (leb bytesLeast (length m)) 5
-    (ask (endsIn k m) letters
+    (ask (endsIn k m) number
     (ask (isSized (lastFields k m .width) (lastFields k m .depth)) 7
     (ask (isStepped (lastFields k m .step) (lastFields k m .radius)) 8
     0)))
 
--- question 9 of a map and 13 of a list, whose sizes ask for so many bytes before the trailer: is the distance back as many, and are the
--- bytes those and the trailer's?
+-- question 9 of a map, 13 of a list: is the distance back the bytes that the sizes ask for, and the whole that plus the trailer's?
 abbrev pub isWhole : Kind → ℕ → ℕ → ℕ → Bool
-isWhole k before distance long = eqb distance before && eqb long (before + lengthOf k)
+isWhole k before distance whole = eqb distance before && eqb whole (before + lengthOf k)

@@ -64,7 +64,7 @@ pub then-next : (a b k : ℕ) → a ≡ 0 → k ≡ b → k ≡ thenAsk a b
 unfolding thenAsk
 then-next a b k e f = rw (e, f)
 
--- a number above all of the earlier group is the later one's
+-- a number that is not the earlier group's is the later one's
 pub then-later : (a b k : ℕ) → (a ≡ k → ⊥) → thenAsk a b ≡ k → (a ≡ 0) × (b ≡ k)
 unfolding thenAsk
 then-later zero b k h e = (refl, e)

@@ -23,8 +23,8 @@ use Rattle.cutter.specs.Map.{trailerOf}
 use Rattle.cutter.specs.List.{countOf, listLength}
 use Rattle.cutter.specs.Sizes.{trailerRefusal, isWhole}
 use Rattle.cutter.specs.Call.{heightsWithin, heightsRefusal, mapRefusal}
-use Rattle.cutter.specs.Accepted.{Sizes, Trailed}
-use Rattle.cutter.proofs.Accepted.{trailed-of, whole-long}
+use Rattle.cutter.specs.Accepted.{Sizes}
+use Rattle.cutter.proofs.Accepted.{whole-long}
 use Rattle.cutter.proofs.Counts.{size-most}
 
 -- ---- question 10
@@ -108,15 +108,6 @@ module _ (m : List ℕ) (room n : ℕ) (e : n ≡ trailerRefusal Plt1 6 m) where
   asked h = then-first (trailerRefusal Plt1 6 m) (heightsRefusal m room) n e h
 
   module _ (z : n ≡ 0) where
-    trailed : Trailed Plt1 m
-    trailed = trailed-of Plt1 5 m (sym e ∙ z)
-
-    pub trailer-fits : lengthOf Plt1 ≤ length m
-    trailer-fits = trailed .fits
-
-    pub sizes-told : (t : Fields) → t ≡ trailerOf m → Sizes (t .width) (t .depth)
-    sizes-told t f = rw f (trailed .sizes)
-
     -- and where it gets none, the heights' number is
     pub later : (x : ℕ) → x ≡ heightsRefusal m room → x ≡ mapRefusal m room
     unfolding mapRefusal

@@ -47,7 +47,7 @@ length-small rounding m room =
       arith,
       accepted-answer rounding m room z,
       list-length-is m,
-      count-most (widthOf m) (depthOf m) (accepted-of m room (map-asked rounding m room z) .sizes),
+      count-most (widthOf m) (depthOf m) (accepted-of m room (map-asked rounding m room z) .trailed .sizes),
     ))
     (λ h. omega (arith, refused-answer rounding m room h))
 

@@ -11,7 +11,7 @@ use lib.IntN.{ℤ, pos}
 use Rattle.trailer.specs.Kinds.{lengthOf}
 use Rattle.trailer.specs.declared.Kind.the-variants.{Cut1}
 use Rattle.trailer.specs.declared.Fields.{Fields}
-use Rattle.cutter.specs.Agree.{entryAt}
+use Rattle.cutter.specs.List.{entryAt}
 use Rattle.reader.specs.Reader.{trailerOf, recordRefusal}
 use Rattle.reader.proofs.Questions.{record-held}
 use Rattle.plate.specs.Record.{refusedRecord, recordCall}

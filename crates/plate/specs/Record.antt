@@ -4,7 +4,7 @@ use mathlib.Core.Bool.{cond}
 use mathlib.Core.List.{List}
 use lib.Dec.{eqb}
 use lib.IntN.{pos}
-use Rattle.cutter.specs.Agree.{entryAt}
+use Rattle.cutter.specs.List.{entryAt}
 use Rattle.reader.specs.Reader.{trailerOf, recordRefusal}
 use Rattle.plate.specs.declared.RecordReply.{RecordReply}
 
@@ -27,5 +27,6 @@ recordRead b index =
       z = entryAt b index 2;
     }
 
+-- what the call gives: the sizes and the record, or the number of the first question answered "no"
 unfoldable pub recordCall : List ℕ → ℕ → RecordReply
 recordCall b index = cond (eqb (recordRefusal b index) 0) (recordRead b index) (refusedRecord (recordRefusal b index))

@@ -1,6 +1,6 @@
 // The plate unit. Every call that is open to users stands in this file and, for callers from C, in c.rt, and nowhere else. None asks
 // anything of its caller: an operand that a call cannot take gets the number of the first question that it fails. The calls have one
-// shape: the questions first, on numbers as they come; then the work, on an operation and a rounding that are cases.
+// shape: the questions first, on numbers as they come; then the work, an operation and a rounding being cases by then.
 mod c;
 
 ghost use mathlib.Core.Path.{_≡_};
@@ -154,8 +154,8 @@ pub fn list(rounding: Rounding, map: &[u8], buffer: &mut [u8]) -> ListReply
     ListReply { refusal, length }
 }
 
-// What the record call gives back: refusal 0 with the sizes of the list's trailer and the record's coordinates, in micrometres; or the
-// number of a question, with 0 in every other place.
+// What the record call gives back: refusal 0 with the sizes of the list's trailer, columns and rows first, and the record's coordinates,
+// in micrometres like step and radius; or the number of a question, with 0 in every other place.
 #[repr(C)]
 pub struct RecordReply {
     pub refusal: u8,

@@ -16,7 +16,7 @@ use Rattle.words.specs.Parts.{partsOf}
 use Rattle.words.specs.Joined.{joined}
 use Rattle.words.specs.declared.Signed.{Signed}
 use Rattle.words.proofs.Differences.{negative-is, magnitude-is}
-use Rattle.cutter.specs.Agree.{entryAt}
+use Rattle.cutter.specs.List.{entryAt}
 use Rattle.decimal.specs.Digits.{decimal, sign, signedDecimal}
 use Rattle.decimal.specs.Put.{PutAt}
 use Rattle.decimal.proofs.Putting.{put-behind, none-put}

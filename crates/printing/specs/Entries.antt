@@ -2,7 +2,7 @@
 use Prim.Native.Nat.{ℕ, _+_, _/_, _%_}
 use mathlib.Core.List.{List, [], _∷_}
 use lib.IntN.{pos}
-use Rattle.cutter.specs.Agree.{entryAt}
+use Rattle.cutter.specs.List.{entryAt}
 use Rattle.printing.specs.Line.{line}
 
 -- column, row, x, y and z of record n in the list of a map with so many inner columns

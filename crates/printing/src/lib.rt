@@ -6,7 +6,7 @@ ghost use lib.IntN.{pos};
 ghost use Rattle.words.specs.Joined.{joined};
 ghost use Rattle.trailer.specs.Bytes.{InRange};
 ghost use Rattle.trailer.specs.declared.Kind.the-variants.{Plt1};
-ghost use Rattle.cutter.specs.Agree.{entryAt};
+ghost use Rattle.cutter.specs.List.{entryAt};
 ghost use Rattle.decimal.specs.Put.{PutAt};
 ghost use Rattle.printing.specs.Line.{followed, line};
 ghost use Rattle.printing.specs.Entries.{entryLine};

@@ -4,7 +4,7 @@ use mathlib.Core.Bool.{Bool, true, false}
 use mathlib.Core.List.{List}
 use Prim.Native.Nat.{ℕ, _+_, _*_, _≤_, _<_}
 use native.Mathlib.Omega.{arith}
-use lib.Dec.{ltb}
+use lib.Dec.{ltb, lit<}
 use lib.ListN.{length}
 use lib.IntN.{ℤ}
 use mir.Syntax.{w32}
@@ -18,8 +18,7 @@ use Rattle.words.proofs.Bits.{signed-back}
 use Rattle.trailer.specs.Kinds.{lengthOf}
 use Rattle.trailer.specs.declared.Kind.the-variants.{Cut1}
 use Rattle.trailer.specs.declared.Fields.{Fields}
-use Rattle.cutter.specs.List.{countOf}
-use Rattle.cutter.specs.Agree.{entryAt}
+use Rattle.cutter.specs.List.{countOf, entryAt}
 use Rattle.cutter.specs.Sizes.{trailerRefusal, isWhole}
 use Rattle.cutter.specs.Accepted.{Sizes}
 use Rattle.cutter.proofs.Accepted.{trailed-of, whole-long}
@@ -34,25 +33,18 @@ module _ (b : List ℕ) (n : ℕ) (e : n ≡ trailerRefusal Cut1 12 b) where
   unfolding readerRefusal
   asked h = then-first (trailerRefusal Cut1 12 b) _ n e h
 
-  module _ (z : n ≡ 0) where
-    pub trailer-fits : lengthOf Cut1 ≤ length b
-    trailer-fits = trailed-of Cut1 11 b (sym e ∙ z) .fits
+  -- where it gets none, the length decides
+  module _ (z : n ≡ 0) (t : Fields) (f : t ≡ trailerOf b) (before : ℕ) (p : before ≡ 12 * countOf (t .width) (t .depth)) (r : Bool) (g : r ≡ isWhole Cut1 before (t .distance) (length b)) where
+    whole-is : (v : Bool) → r ≡ v → isWhole Cut1 (12 * recordsOf b) (trailerOf b .distance) (length b) ≡ v
+    whole-is v i = cc
 
-    module _ (t : Fields) (f : t ≡ trailerOf b) where
-      pub sizes-told : Sizes (t .width) (t .depth)
-      sizes-told = rw f (trailed-of Cut1 11 b (sym e ∙ z) .sizes)
+    pub none : r ≡ true → 0 ≡ readerRefusal b
+    unfolding readerRefusal
+    none o = then-next (trailerRefusal Cut1 12 b) _ 0 (sym e ∙ z) (ask-yes _ 13 _ 0 (whole-is true o) refl)
 
-      module _ (before : ℕ) (p : before ≡ 12 * countOf (t .width) (t .depth)) (r : Bool) (g : r ≡ isWhole Cut1 before (t .distance) (length b)) where
-        whole-is : (v : Bool) → r ≡ v → isWhole Cut1 (12 * recordsOf b) (trailerOf b .distance) (length b) ≡ v
-        whole-is v i = cc
-
-        pub none : r ≡ true → 0 ≡ readerRefusal b
-        unfolding readerRefusal
-        none o = then-next (trailerRefusal Cut1 12 b) _ 0 (sym e ∙ z) (ask-yes _ 13 _ 0 (whole-is true o) refl)
-
-        pub thirteen : r ≡ false → 13 ≡ readerRefusal b
-        unfolding readerRefusal
-        thirteen o = then-next (trailerRefusal Cut1 12 b) _ 13 (sym e ∙ z) (ask-no _ 13 _ (whole-is false o))
+    pub thirteen : r ≡ false → 13 ≡ readerRefusal b
+    unfolding readerRefusal
+    thirteen o = then-next (trailerRefusal Cut1 12 b) _ 13 (sym e ∙ z) (ask-no _ 13 _ (whole-is false o))
 
 -- what they tell
 pub sound-of : (b : List ℕ) → readerRefusal b ≡ 0 → Sound b
@@ -60,7 +52,7 @@ unfolding readerRefusal
 sound-of b e =
     let both = then-none (trailerRefusal Cut1 12 b) (ask (isWhole Cut1 (12 * recordsOf b) (trailerOf b .distance) (length b)) 13 0) e in
     let a13 = yes (isWhole Cut1 (12 * recordsOf b) (trailerOf b .distance) (length b)) 12 0 (both .1) in
-    record { trailed = trailed-of Cut1 11 b (both .0); long = whole-long Cut1 (12 * recordsOf b) (trailerOf b .distance) (length b) (sure _ (a13 .0)) }
+    record { trailed = trailed-of Cut1 12 b (lit< tt) (both .0); long = whole-long Cut1 (12 * recordsOf b) (trailerOf b .distance) (length b) (sure _ (a13 .0)) }
 
 -- ---- the index
 

@@ -13,13 +13,12 @@ use Rattle.trailer.specs.Kinds.{lengthOf}
 use Rattle.trailer.specs.Bytes.{endsIn, InRange}
 use Rattle.trailer.specs.declared.Kind.the-variants.{Cut1}
 use Rattle.trailer.proofs.RoundTrip.{ends-own, last-own}
-use Rattle.cutter.specs.Map.{widthOf, depthOf}
+use Rattle.cutter.specs.Map.{widthOf, depthOf, stepOf, radiusOf}
 use Rattle.cutter.specs.Centre.{coordinate}
-use Rattle.cutter.specs.List.{countOf, centreAt, recordAt, listFields, listBytes}
+use Rattle.cutter.specs.List.{countOf, centreAt, recordAt, listFields, listBytes, entryAt}
 use Rattle.cutter.specs.Sizes.{trailerRefusal}
-use Rattle.cutter.specs.Agree.{entryAt}
 use Rattle.cutter.specs.Accepted.{Accepted}
-use Rattle.cutter.proofs.Accepted.{trailer-yes, whole-yes}
+use Rattle.cutter.proofs.Accepted.{are-sized, are-stepped, trailer-yes, whole-yes}
 use Rattle.cutter.proofs.Counts.{count-most}
 use Rattle.cutter.proofs.Lengths.{list-parts, list-length-is, length-list}
 use Rattle.cutter.proofs.Entries.{list-entry}
@@ -33,11 +32,11 @@ module _ (mode : Mode) (m : List ℕ) {room : ℕ} (a : Accepted m room) where
   in-range : InRange Cut1 (listFields m)
   in-range =
       record {
-        distance = omega (arith, count-most (widthOf m) (depthOf m) (a .sizes));
-        width = omega (arith, a .sizes .narrow);
-        depth = omega (arith, a .sizes .shallow);
-        step = omega (arith, a .steps .step-most);
-        radius = omega (arith, a .steps .radius-most);
+        distance = omega (arith, count-most (widthOf m) (depthOf m) (a .trailed .sizes));
+        width = omega (arith, a .trailed .sizes .narrow);
+        depth = omega (arith, a .trailed .sizes .shallow);
+        step = omega (arith, a .trailed .steps .step-most);
+        radius = omega (arith, a .trailed .steps .radius-most);
         rounding = omega arith;
       }
 
@@ -59,7 +58,7 @@ module _ (mode : Mode) (m : List ℕ) {room : ℕ} (a : Accepted m room) where
       let t : trailerOf b ≡ listFields m = written-trailer in
       sym
       (then-next (trailerRefusal Cut1 12 b) _ 0
-      (sym (trailer-yes Cut1 12 b (omega (arith, long)) ends (rw t (a .sizes)) (rw t (a .steps))))
+      (sym (trailer-yes Cut1 12 b (omega (arith, long)) ends (rw t (are-sized (widthOf m) (depthOf m) (a .trailed .sizes))) (rw t (are-stepped (stepOf m) (radiusOf m) (a .trailed .steps)))))
       (ask-yes _ 13 0 0
       (whole-yes Cut1 (12 * recordsOf b) (trailerOf b .distance) (length b) (rw t refl) (rw t long))
       refl))

@@ -18,14 +18,14 @@ trailerOf b = lastFields Cut1 b
 abbrev pub recordsOf : List ℕ → ℕ
 recordsOf b = countOf (trailerOf b .width) (trailerOf b .depth)
 
--- the number of the first question about the bytes that is answered "no", or 0: those about the trailer, 12 asking for the letters CUT1,
--- and 13, which asks for twelve bytes a record
+-- the number of the first question about the bytes that is answered "no", or 0: the trailer's, 12 being that of the letters CUT1; then 13,
+-- twelve bytes a record
 unfoldable pub readerRefusal : List ℕ → ℕ
 readerRefusal b =
     thenAsk (trailerRefusal Cut1 12 b)
     (ask (isWhole Cut1 (12 * recordsOf b) (trailerOf b .distance) (length b)) 13
     0)
 
--- the same where the record at an index is asked for, from 0, row by row: last, 14, is the index below the number of records?
+-- the same, and then 14: is the index, counted from 0, below the number of records?
 unfoldable pub recordRefusal : List ℕ → ℕ → ℕ
 recordRefusal b index = thenAsk (readerRefusal b) (ask (ltb index (recordsOf b)) 14 0)

@@ -8,6 +8,7 @@ use Rattle.trailer.specs.declared.Kind.the-variants.{Cut1}
 use Rattle.cutter.specs.Accepted.{Trailed}
 use Rattle.reader.specs.Reader.{recordsOf}
 
+-- its trailer is in order, and stands behind twelve bytes a record
 pub record Sound (b : List ℕ) : Type 0 where
   pub trailed : Trailed Cut1 b
   pub long : length b ≡ 12 * recordsOf b + lengthOf Cut1

@@ -2,7 +2,7 @@
 ghost use mathlib.Core.Path.{_≡_};
 ghost use Prim.Native.Nat.{_+_, _*_, _≤_, _<_};
 ghost use lib.ListN.{length};
-ghost use Rattle.cutter.specs.Agree.{entryAt};
+ghost use Rattle.cutter.specs.List.{entryAt};
 ghost use Rattle.reader.specs.Reader.{readerRefusal, recordRefusal};
 use sizes::count;
 use sizes::is_whole;

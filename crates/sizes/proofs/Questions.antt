@@ -20,6 +20,7 @@ use Rattle.cutter.specs.Limits.{bytesLeast}
 use Rattle.cutter.specs.List.{countOf}
 use Rattle.cutter.specs.Sizes.{isSized, isStepped, trailerRefusal, isWhole}
 use Rattle.cutter.specs.Accepted.{Sizes}
+use Rattle.cutter.proofs.Accepted.{trailer-yes}
 use Rattle.cutter.proofs.Counts.{count-most}
 
 module _ (k : Kind) (n : ℕ) (m : List ℕ) where
@@ -59,11 +60,7 @@ module _ (k : Kind) (n : ℕ) (m : List ℕ) where
               (ask-yes _ 7 _ 8 (sized-is true (not-false s p)) (ask-no _ 8 _ (stepped-is false (not-true u i)))))
 
           pub none : not u ≡ false → 0 ≡ trailerRefusal k n m
-          unfolding trailerRefusal
-          none i =
-              ask-yes _ 5 _ 0 (le-leb bytesLeast (length m) h)
-              (ask-yes _ n _ 0 (sym f ∙ not-false r o)
-              (ask-yes _ 7 _ 0 (sized-is true (not-false s p)) (ask-yes _ 8 _ 0 (stepped-is true (not-false u i)) refl)))
+          none i = trailer-yes k n m h (sym f ∙ not-false r o) (sized-is true (not-false s p)) (stepped-is true (not-false u i))
 
 -- ---- sizes
 

@@ -20,15 +20,15 @@ const STEP_MOST: u64 = 10000;
 
 const RADIUS_MOST: u64 = 12500;
 
-// The number of the first question that is answered "no", or 0; the letters of the kind have a number of their own.
-pub fn refusal(bytes: &[u8], kind: Kind, letters: u8) -> u8
-    ensures { λ r. ⌜ r ≡ trailerRefusal kind letters (now (bytes .entry)) ⌝ }
+// The number of the first question that is answered "no", or 0; the number given is that of the kind's letters.
+pub fn refusal(bytes: &[u8], kind: Kind, number: u8) -> u8
+    ensures { λ r. ⌜ r ≡ trailerRefusal kind number (now (bytes .entry)) ⌝ }
 {
     if bytes.len() < BYTES_LEAST {
         return 5;
     }
     if !ends_in(bytes, kind) {
-        return letters;
+        return number;
     }
     let trailer = read_last(bytes, kind);
     if !sizes_hold(trailer.width, trailer.depth) {

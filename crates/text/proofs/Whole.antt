@@ -21,8 +21,7 @@ use Rattle.trailer.specs.declared.Kind.the-variants.{Plt1}
 use Rattle.trailer.specs.declared.Fields.{Fields}
 use Rattle.cutter.specs.Map.{trailerOf, widthOf, depthOf}
 use Rattle.cutter.specs.Centre.{coordinate}
-use Rattle.cutter.specs.List.{countOf, columnOf, rowOf, centreAt}
-use Rattle.cutter.specs.Agree.{entryAt}
+use Rattle.cutter.specs.List.{countOf, columnOf, rowOf, centreAt, entryAt}
 use Rattle.cutter.specs.Call.{mapRefusal, listRefusal, bufferAfter}
 use Rattle.cutter.specs.Accepted.{Sizes}
 use Rattle.cutter.proofs.Counts.{count-most}

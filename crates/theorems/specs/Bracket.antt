@@ -9,8 +9,8 @@ use Rattle.kinds.specs.Operation.{opOf}
 use Rattle.ieee.specs.Format.{binary32, magnitudeOf}
 use Rattle.ieee.specs.Agree.{Agree}
 use Rattle.cutter.specs.Map.{widthOf, depthOf}
-use Rattle.cutter.specs.List.{countOf}
-use Rattle.cutter.specs.Agree.{ExactMap, entryAt}
+use Rattle.cutter.specs.List.{countOf, entryAt}
+use Rattle.cutter.specs.Agree.{ExactMap}
 use Rattle.plate.specs.declared.Binary32Reply.{Binary32Reply}
 use Rattle.plate.specs.declared.ListReply.{ListReply}
 

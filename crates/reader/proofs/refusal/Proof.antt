@@ -1,5 +1,6 @@
 -- `reader::refusal` meets its contract: the number that the trailer gets, or else question 13. Assumes nothing.
-use Rattle.reader.proofs.Questions.{asked, trailer-fits, sizes-told, none, thirteen}
+use Rattle.cutter.proofs.Accepted.{ending-fits, ending-sizes}
+use Rattle.reader.proofs.Questions.{asked, none, thirteen}
 use borrow.Author.Needs.{needs}
 use Rattle.reader.proofs.refusal.Statement.{statement}
 use Rattle.reader.proofs.refusal.Tie as tie
@@ -11,10 +12,10 @@ returns : tie.Need-returns
 returns c = search asked
 
 read-last-requires : tie.Need-read-last-requires
-read-last-requires c κs = search trailer-fits
+read-last-requires c κs = search (needs, ending-fits)
 
 records-length-requires : tie.Need-records-length-requires
-records-length-requires c κs = search sizes-told
+records-length-requires c κs = search (needs, ending-sizes)
 
 is-whole-requires : tie.Need-is-whole-requires
 is-whole-requires c κs = search needs
