@@ -12,7 +12,7 @@ use Rattle.trailer.specs.Kinds.{lengthOf}
 use Rattle.trailer.specs.declared.Kind.the-variants.{Cut1}
 use Rattle.trailer.specs.declared.Fields.{Fields}
 use Rattle.cutter.specs.List.{entryAt}
-use Rattle.reader.specs.Reader.{trailerOf, recordRefusal}
+use Rattle.reader.specs.Reader.{listTrailer, recordRefusal}
 use Rattle.reader.proofs.Questions.{record-held}
 use Rattle.plate.specs.Record.{refusedRecord, recordCall}
 
@@ -28,7 +28,7 @@ module _ (b : List ℕ) (index n : ℕ) (e : n ≡ recordRefusal b index) where
     pub record-fits : 12 * index + 12 ≤ length b
     record-fits = record-held b index (sym e ∙ z) .1
 
-    pub answered : (t : Fields) (p q r : ℤ) → t ≡ trailerOf b → p ≡ entryAt b index 0 → SFits w32 p → q ≡ entryAt b index 1 → SFits w32 q
+    pub answered : (t : Fields) (p q r : ℤ) → t ≡ listTrailer b → p ≡ entryAt b index 0 → SFits w32 p → q ≡ entryAt b index 1 → SFits w32 q
         → r ≡ entryAt b index 2 → SFits w32 r
         → record { refusal = n; width = t .width; depth = t .depth; step = t .step; radius = t .radius; x = toZ w32 (ofZ w32 p); y = toZ w32 (ofZ w32 q); z = toZ w32 (ofZ w32 r) }
         ≡ recordCall b index

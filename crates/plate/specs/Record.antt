@@ -5,7 +5,7 @@ use mathlib.Core.List.{List}
 use lib.Dec.{eqb}
 use lib.IntN.{pos}
 use Rattle.cutter.specs.List.{entryAt}
-use Rattle.reader.specs.Reader.{trailerOf, recordRefusal}
+use Rattle.reader.specs.Reader.{listTrailer, recordRefusal}
 use Rattle.plate.specs.declared.RecordReply.{RecordReply}
 
 -- after a "no" its number, and 0 in every other place
@@ -18,10 +18,10 @@ abbrev pub recordRead : List ℕ → ℕ → RecordReply
 recordRead b index =
     record {
       refusal = 0;
-      width = trailerOf b .width;
-      depth = trailerOf b .depth;
-      step = trailerOf b .step;
-      radius = trailerOf b .radius;
+      width = listTrailer b .width;
+      depth = listTrailer b .depth;
+      step = listTrailer b .step;
+      radius = listTrailer b .radius;
       x = entryAt b index 0;
       y = entryAt b index 1;
       z = entryAt b index 2;

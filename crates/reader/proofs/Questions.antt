@@ -22,7 +22,7 @@ use Rattle.cutter.specs.List.{countOf, entryAt}
 use Rattle.cutter.specs.Sizes.{trailerRefusal, isWhole}
 use Rattle.cutter.specs.Accepted.{Sizes}
 use Rattle.cutter.proofs.Accepted.{trailed-of, whole-long}
-use Rattle.reader.specs.Reader.{trailerOf, recordsOf, readerRefusal, recordRefusal}
+use Rattle.reader.specs.Reader.{listTrailer, recordsOf, readerRefusal, recordRefusal}
 use Rattle.reader.specs.Sound.{Sound}
 
 -- ---- the questions about the bytes
@@ -34,8 +34,8 @@ module _ (b : List ℕ) (n : ℕ) (e : n ≡ trailerRefusal Cut1 12 b) where
   asked h = then-first (trailerRefusal Cut1 12 b) _ n e h
 
   -- where it gets none, the length decides
-  module _ (z : n ≡ 0) (t : Fields) (f : t ≡ trailerOf b) (before : ℕ) (p : before ≡ 12 * countOf (t .width) (t .depth)) (r : Bool) (g : r ≡ isWhole Cut1 before (t .distance) (length b)) where
-    whole-is : (v : Bool) → r ≡ v → isWhole Cut1 (12 * recordsOf b) (trailerOf b .distance) (length b) ≡ v
+  module _ (z : n ≡ 0) (t : Fields) (f : t ≡ listTrailer b) (before : ℕ) (p : before ≡ 12 * countOf (t .width) (t .depth)) (r : Bool) (g : r ≡ isWhole Cut1 before (t .distance) (length b)) where
+    whole-is : (v : Bool) → r ≡ v → isWhole Cut1 (12 * recordsOf b) (listTrailer b .distance) (length b) ≡ v
     whole-is v i = cc
 
     pub none : r ≡ true → 0 ≡ readerRefusal b
@@ -50,9 +50,9 @@ module _ (b : List ℕ) (n : ℕ) (e : n ≡ trailerRefusal Cut1 12 b) where
 pub sound-of : (b : List ℕ) → readerRefusal b ≡ 0 → Sound b
 unfolding readerRefusal
 sound-of b e =
-    let both = then-none (trailerRefusal Cut1 12 b) (ask (isWhole Cut1 (12 * recordsOf b) (trailerOf b .distance) (length b)) 13 0) e in
-    let a13 = yes (isWhole Cut1 (12 * recordsOf b) (trailerOf b .distance) (length b)) 12 0 (both .1) in
-    record { trailed = trailed-of Cut1 12 b (lit< tt) (both .0); long = whole-long Cut1 (12 * recordsOf b) (trailerOf b .distance) (length b) (sure _ (a13 .0)) }
+    let both = then-none (trailerRefusal Cut1 12 b) (ask (isWhole Cut1 (12 * recordsOf b) (listTrailer b .distance) (length b)) 13 0) e in
+    let a13 = yes (isWhole Cut1 (12 * recordsOf b) (listTrailer b .distance) (length b)) 12 0 (both .1) in
+    record { trailed = trailed-of Cut1 12 b (lit< tt) (both .0); long = whole-long Cut1 (12 * recordsOf b) (listTrailer b .distance) (length b) (sure _ (a13 .0)) }
 
 -- ---- the index
 
@@ -65,7 +65,7 @@ module _ (b : List ℕ) (index n : ℕ) (e : n ≡ readerRefusal b) where
     pub list-fits : lengthOf Cut1 ≤ length b
     list-fits = sound-of b (sym e ∙ z) .trailed .fits
 
-    module _ (t : Fields) (f : t ≡ trailerOf b) where
+    module _ (t : Fields) (f : t ≡ listTrailer b) where
       pub list-sizes : Sizes (t .width) (t .depth)
       list-sizes = rw f (sound-of b (sym e ∙ z) .trailed .sizes)
 

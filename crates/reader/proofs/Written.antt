@@ -22,7 +22,7 @@ use Rattle.cutter.proofs.Accepted.{are-sized, are-stepped, trailer-yes, whole-y
 use Rattle.cutter.proofs.Counts.{count-most}
 use Rattle.cutter.proofs.Lengths.{list-parts, list-length-is, length-list}
 use Rattle.cutter.proofs.Entries.{list-entry}
-use Rattle.reader.specs.Reader.{trailerOf, recordsOf, readerRefusal, recordRefusal}
+use Rattle.reader.specs.Reader.{listTrailer, recordsOf, readerRefusal, recordRefusal}
 
 append-none : (l : List ℕ) → l ++ [] ≡ l
 append-none [] = refl
@@ -41,7 +41,7 @@ module _ (mode : Mode) (m : List ℕ) {room : ℕ} (a : Accepted m room) where
       }
 
   -- the trailer is read back
-  pub written-trailer : trailerOf (listBytes mode m) ≡ listFields m
+  pub written-trailer : listTrailer (listBytes mode m) ≡ listFields m
   written-trailer = rw (list-parts mode m) (last-own Cut1 (listFields m) (joined (recordAt mode m) (countOf (widthOf m) (depthOf m))) in-range)
 
   ends : endsIn Cut1 (listBytes mode m) ≡ true
@@ -55,12 +55,12 @@ module _ (mode : Mode) (m : List ℕ) {room : ℕ} (a : Accepted m room) where
   unfolding readerRefusal
   written-accepted =
       let b : List ℕ = listBytes mode m in
-      let t : trailerOf b ≡ listFields m = written-trailer in
+      let t : listTrailer b ≡ listFields m = written-trailer in
       sym
       (then-next (trailerRefusal Cut1 12 b) _ 0
       (sym (trailer-yes Cut1 12 b (omega (arith, long)) ends (rw t (are-sized (widthOf m) (depthOf m) (a .trailed .sizes))) (rw t (are-stepped (stepOf m) (radiusOf m) (a .trailed .steps)))))
       (ask-yes _ 13 0 0
-      (whole-yes Cut1 (12 * recordsOf b) (trailerOf b .distance) (length b) (rw t refl) (rw t long))
+      (whole-yes Cut1 (12 * recordsOf b) (listTrailer b .distance) (length b) (rw t refl) (rw t long))
       refl))
 
   -- so is the index exactly where it is below the number of inner points

@@ -11,19 +11,19 @@ use Rattle.cutter.specs.List.{countOf}
 use Rattle.cutter.specs.Sizes.{trailerRefusal, isWhole}
 
 -- the trailer, of the kind CUT1, is what a list ends in
-abbrev pub trailerOf : List ℕ → Fields
-trailerOf b = lastFields Cut1 b
+abbrev pub listTrailer : List ℕ → Fields
+listTrailer b = lastFields Cut1 b
 
 -- how many records a list has, by its w and d
 abbrev pub recordsOf : List ℕ → ℕ
-recordsOf b = countOf (trailerOf b .width) (trailerOf b .depth)
+recordsOf b = countOf (listTrailer b .width) (listTrailer b .depth)
 
 -- the number of the first question about the bytes that is answered "no", or 0: the trailer's, 12 being that of the letters CUT1; then 13,
 -- twelve bytes a record
 unfoldable pub readerRefusal : List ℕ → ℕ
 readerRefusal b =
     thenAsk (trailerRefusal Cut1 12 b)
-    (ask (isWhole Cut1 (12 * recordsOf b) (trailerOf b .distance) (length b)) 13
+    (ask (isWhole Cut1 (12 * recordsOf b) (listTrailer b .distance) (length b)) 13
     0)
 
 -- the same, and then 14: is the index, counted from 0, below the number of records?

@@ -94,8 +94,8 @@ module _ (x : ℤ) (f : SFits w32 x) where
     pub up-cast : T (nonNeg (toZ w32 (ofZ w32 (negsuc 0 -ℤ toZ w32 (ofZ w32 x))))) × Fits w64 (natAbs (toZ w32 (ofZ w32 (negsuc 0 -ℤ toZ w32 (ofZ w32 x)))))
     up-cast = rw up-back (tt, record { fits = omega (arith, f .sfits) })
 
-    pub up-more : Fits w64 (natAbs (toZ w32 (ofZ w32 (negsuc 0 -ℤ toZ w32 (ofZ w32 x)))) + 1)
-    up-more = rw up-back (record { fits = omega (arith, f .sfits) })
+    pub up-more : (n : ℕ) → n < 4294967296 → Fits w64 (natAbs (toZ w32 (ofZ w32 (negsuc 0 -ℤ toZ w32 (ofZ w32 x)))) + n)
+    up-more n h = rw up-back (record { fits = omega (arith, f .sfits) })
 
     pub up-parts : record { negative = true; magnitude = natAbs (toZ w32 (ofZ w32 (negsuc 0 -ℤ toZ w32 (ofZ w32 x)))) + 1 } ≡ partsOf x
     up-parts = rw up-back (parts-below x below)

@@ -1,6 +1,6 @@
 -- `words::parts_of` meets its contract: below 0 and from there on. Assumes nothing.
 use Rattle.words.proofs.Bits.{up-fits, up-cast, up-more, up-parts, same-cast, same-parts}
-use borrow.Author.Needs.{sfits-of}
+use borrow.Author.Needs.{needs, sfits-of}
 use Rattle.words.proofs.parts_of.Statement.{statement}
 use Rattle.words.proofs.parts_of.Tie as tie
 
@@ -11,7 +11,7 @@ cast-t5 : tie.Need-cast-t5
 cast-t5 c = up-cast _ (c .before .fits .x) (c .if1 .taken)
 
 add-t6 : tie.Need-add-t6
-add-t6 c = search (sfits-of, up-more)
+add-t6 c = search (needs, up-more)
 
 cast-t7 : tie.Need-cast-t7
 cast-t7 c = same-cast _ (c .before .fits .x) (c .if1 .left)
