@@ -22,7 +22,7 @@ def largest():
     while at < len(data):
         length = int.from_bytes(data[at:at + 4], 'little')
         room = int.from_bytes(data[at + 4:at + 8], 'little')
-        if length == 16400 and room >= 46144:
+        if length == 16400 and room >= 46146:
             return data[at + 8:at + 8 + length]
         at += 8 + length
     sys.exit('no map of 16,400 bytes')

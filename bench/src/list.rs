@@ -10,7 +10,7 @@ use plate_tests::chance::Chance;
 use crate::timing::{compare, side, Side, ROUNDS};
 
 /// The list of a 64 x 64 map.
-const LENGTH: usize = 12 * 62 * 62 + 16;
+const LENGTH: usize = 12 * 62 * 62 + 18;
 
 /// t / sqrt(square) floored, root being the machine's root of square. The float
 /// quotient is off by less than 10^-11, so its whole part by at most one. All
@@ -83,7 +83,7 @@ fn rounded<const ROUNDING: u8>(map: &[u8], list: &mut [u8]) -> u64 {
         return 10 << 40;
     }
     let records = 12 * (w - 2) * (d - 2);
-    let Some(list) = list.get_mut(..records + 16) else {
+    let Some(list) = list.get_mut(..records + 18) else {
         return 11 << 40;
     };
     let (records, end) = list.split_at_mut(records);
@@ -105,10 +105,11 @@ fn rounded<const ROUNDING: u8>(map: &[u8], list: &mut [u8]) -> u64 {
             record[8..12].copy_from_slice(&(middle[c] + at(up)).to_le_bytes());
         }
     }
-    end[0..4].copy_from_slice(b"CUT1");
+    end[0..4].copy_from_slice(b"CUT2");
     end[4..8].copy_from_slice(&(records.len() as u32).to_le_bytes());
     end[8..16].copy_from_slice(&trailer[8..16]);
-    (records.len() + 16) as u64
+    end[16..18].copy_from_slice(&(ROUNDING as u16).to_le_bytes());
+    (records.len() + 18) as u64
 }
 
 fn make_map(w: i64, d: i64, step: u16, radius: u16, height: impl FnMut((i64, i64)) -> i64) -> Vec<u8> {
@@ -179,6 +180,6 @@ fn check(rounding: u8, map: &[u8], chance: &mut Chance) {
         let (step, radius) = (other.range(1, 10_000) as u16, other.range(1, 12_500) as u16);
         let top = other.pick(&[2, 100, 50_000]);
         let small = make_map(w, d, step, radius, |_| other.range(-top, top));
-        both(&small, (12 * (w - 2) * (d - 2) + 16) as usize);
+        both(&small, (12 * (w - 2) * (d - 2) + 18) as usize);
     }
 }

@@ -21,8 +21,9 @@ list_vectors      stdin  binary frames: u32 length of the map, u32 length of the
 record_vectors    stdin  binary frames: u32 length of the list, u32 number of
                   indexes, both little-endian, then the list, then the indexes,
                   8 bytes each, little-endian
-                  stdout refusal w d step radius x y z, a line for each frame
-                  and each of its indexes
+                  stdout refusal rounding w d step radius x y z, a line for each
+                  frame and each of its indexes; an unknown rounding is -. The
+                  frames of #101 stand first
 platelist         document 01's example
 """
 
@@ -239,7 +240,7 @@ def make_map(rows, letters=b"PLT1", w=None, d=None, **others):
 
 
 def exact_length(rows):
-    return 12 * (len(rows[0]) - 2) * (len(rows) - 2) + 16
+    return 12 * (len(rows[0]) - 2) * (len(rows) - 2) + 18
 
 
 # Whole normals with a whole length: a*a + b*b + c*c = t*t.
@@ -305,78 +306,80 @@ def list_frames():
     yield fitting(arched(64, 64, 18000), step=3000, radius=6000)
     yield fitting(rough(chance, 64, 64, 50000), step=1, radius=12500)
     yield fitting(steep(64, 64), step=10000, radius=12500)
-    yield fitting(plane(64, 64, 200, -300, 5000), step=600, radius=7000)
+    rows = plane(64, 64, 200, -300, 5000)
+    yield make_map(rows, step=600, radius=7000), exact_length(rows) + 1
     rows = rough(chance, 64, 64, 900)
-    yield make_map(rows), exact_length(rows) - 1
+    for missing in (1, 2):
+        yield make_map(rows), exact_length(rows) - missing
     yield make_map(rows, front=b"\0"), exact_length(rows)
     rows[63][63] = 50001
     yield make_map(rows), exact_length(rows)
 
-    # Buffers of several lengths.
-    for room in (0, 1, 12, 16, 26, 27, 28, 29, 40, 1000):
+    # Buffers of several lengths. Two bytes fewer held the list before #102.
+    for room in (0, 1, 12, 16, 18, 26, 27, 28, 29, 30, 31, 32, 42, 1000):
         yield make_map(cross(300, -40, 12)), room
-    for _ in range(12):
-        rows = rough(chance, *some_size(8), 3000)
-        length = exact_length(rows)
-        yield make_map(rows), chance.choice((length - 1, length + 1, length + 77, length * 2))
-    yield make_map(flat(4, 4)), 46144
+    for more in (-12, -2, -1, 1, 2, 77):
+        for _ in range(2):
+            rows = rough(chance, *some_size(8), 3000)
+            yield make_map(rows), exact_length(rows) + more
+    yield make_map(flat(4, 4)), plate.LONGEST_LIST + 1
 
     # 5: fewer than 16 bytes.
     trailer = make_map(flat(3, 3))[36:]
     for length in (0, 1, 4, 8, 12, 14, 15):
-        yield trailer[len(trailer) - length:], 28
+        yield trailer[len(trailer) - length:], 30
     yield trailer[1:], 0
     yield b"", 0
 
     # 6: letters.
-    for letters in (b"QLT1", b"PMT1", b"PLU1", b"PLT2", b"PLT0", b"plt1", b"CUT1",
+    for letters in (b"QLT1", b"PMT1", b"PLU1", b"PLT2", b"PLT0", b"plt1", b"CUT1", b"CUT2",
                     b"1TLP", b"\0\0\0\0", b"PLT\xb1"):
-        yield make_map(flat(3, 3), letters=letters), 28
-    for behind in (b"\0", b"PLT1", bytes(16)):
-        yield make_map(flat(3, 3), behind=behind), 28
-    yield bytes(16), 28
-    yield b"\xff" * 16, 28
+        yield make_map(flat(3, 3), letters=letters), 30
+    for behind in (b"\0", b"\0\0", b"PLT1", bytes(16)):
+        yield make_map(flat(3, 3), behind=behind), 30
+    yield bytes(16), 30
+    yield b"\xff" * 16, 30
 
     # 7: w and d, with bodies and distances that agree where that is possible.
     for size in (0, 1, 2, 65, 66, 256, 768, 32771, 65535):
         body = flat(size, 3) if 0 < size < 300 else flat(3, 3)
-        yield make_map(body, w=size, distance=12 * size), 28
-        yield make_map(body, w=3, d=size, distance=12 * size), 28
-    yield make_map(flat(65, 63), w=65, d=63), 46144
-    yield make_map(flat(3, 3), w=0, d=0, distance=0), 28
-    yield make_map(flat(2, 2)), 28
-    yield make_map(flat(3, 3), w=32768, d=32768, distance=0), 28
-    yield make_map(flat(3, 3), w=65535, d=65535), 28
+        yield make_map(body, w=size, distance=12 * size), 30
+        yield make_map(body, w=3, d=size, distance=12 * size), 30
+    yield make_map(flat(65, 63), w=65, d=63), plate.LONGEST_LIST
+    yield make_map(flat(3, 3), w=0, d=0, distance=0), 30
+    yield make_map(flat(2, 2)), 30
+    yield make_map(flat(3, 3), w=32768, d=32768, distance=0), 30
+    yield make_map(flat(3, 3), w=65535, d=65535), 30
 
     # 8: step and radius. Their accepted edges stand above.
     for step, radius in ((0, 1), (1, 0), (0, 0), (10001, 12500), (10000, 12501),
                          (10001, 12501), (65535, 1), (1, 65535), (32769, 1), (1, 32769)):
-        yield make_map(flat(3, 3), step=step, radius=radius), 28
+        yield make_map(flat(3, 3), step=step, radius=radius), 30
 
     # 9: the distance back and the length.
     for distance in (0, 1, 12, 32, 35, 37, 40, 52, 36 + 2**16, 36 + 2**31, -36, -1):
-        yield make_map(flat(3, 3), distance=distance), 28
+        yield make_map(flat(3, 3), distance=distance), 30
     for front in (b"\0", b"PLT1", bytes(12), bytes(36)):
-        yield make_map(flat(3, 3), front=front), 28
-        yield make_map(flat(3, 3), front=front, distance=36 + len(front)), 28
+        yield make_map(flat(3, 3), front=front), 30
+        yield make_map(flat(3, 3), front=front, distance=36 + len(front)), 30
     for missing in (1, 4, 35, 36):
         whole = make_map(flat(3, 3))
-        yield whole[missing:], 28
-        yield make_map(flat(3, 3), distance=36 - missing)[missing:], 28
-    yield make_map(flat(3, 4), w=3, d=3), 28
-    yield make_map(flat(3, 3), w=3, d=4), 40
-    yield make_map(flat(3, 4), w=4, d=3), 40                # the same product
+        yield whole[missing:], 30
+        yield make_map(flat(3, 3), distance=36 - missing)[missing:], 30
+    yield make_map(flat(3, 4), w=3, d=3), 30
+    yield make_map(flat(3, 3), w=3, d=4), 42
+    yield make_map(flat(3, 4), w=4, d=3), 42                # the same product
 
     # 10: heights at each place, corners too.
     for place in range(9):
         for height in (50000, 50001, -50000, -50001):
             rows = cross(20, 30)
             rows[place // 3][place % 3] = height
-            yield make_map(rows), 28
+            yield make_map(rows), 30
     for height in (2**31 - 1, -2**31, 65536, -65536, 2**24, 2**30):
         rows = cross(20, 30)
         rows[chance.randrange(3)][chance.randrange(3)] = height
-        yield make_map(rows), 28
+        yield make_map(rows), 30
 
     # Faults 6 to 11 together, by two, by three and all at once.
     faults = {6: dict(letters=b"PLT\0"), 7: dict(w=2), 8: dict(radius=0),
@@ -389,7 +392,7 @@ def list_frames():
             settings = {}
             for number in chosen:
                 settings.update(faults[number])
-            yield make_map(rows, **settings), 27 if 11 in chosen else 28
+            yield make_map(rows, **settings), 29 if 11 in chosen else 30
 
 
 def digest(some_bytes):
@@ -402,7 +405,7 @@ def digest(some_bytes):
 def list_files():
     given, expected = [], []
     for a_map, room in list_frames():
-        assert len(a_map) <= 16401 and room <= 46144
+        assert len(a_map) <= plate.LONGEST_MAP + 1 and room <= plate.LONGEST_LIST + 1
         given.append(struct.pack("<II", len(a_map), room) + a_map)
         lent = bytes((j * 7 + 3) % 256 for j in range(room))
         for rounding in range(5):
@@ -414,10 +417,15 @@ def list_files():
 
 # ------------------------------------------------------------------ record
 
-def make_list(numbers, w=3, d=3, letters=b"CUT1", **others):
-    """A list of any numbers, each taken in 32 bits."""
+def make_list(numbers, w=3, d=3, letters=None, rounding=None, behind=b"", **others):
+    """A list of any numbers, each taken in 32 bits: without a rounding CUT1, document
+    01's kind, with one CUT2. Other letters stand where that kind has its own."""
     body = b"".join(struct.pack("<I", number % 2**32) for number in numbers)
-    return with_trailer(body, letters, w, d, **others)
+    if letters is None:
+        letters = b"CUT1" if rounding is None else b"CUT2"
+    if rounding is not None:
+        behind = struct.pack("<H", rounding) + behind
+    return with_trailer(body, letters, w, d, behind=behind, **others)
 
 
 # Of a list 3 x 3 the first is a record's index and the others are not.
@@ -428,144 +436,169 @@ NUMBERS = (0, 1, -1, 2, 2**31 - 1, -2**31, 1 - 2**31, 127, 128, 255, 256, -256, 
            2**16 - 1, 2**16, -2**16, 2**23, 2**24, -2**24, 0x7FFF8000, 0x55AA55AA,
            -0x55AA55AA, *(plate.whole(letters) for letters in (b"CUT1", b"CUT2", b"PLT1")))
 
+# Not of 0 to 3; one byte of some is.
+NO_ROUNDINGS = (4, 5, 7, 8, 127, 128, 252, 254, 255, 256, 257, 258, 259, 260, 511, 512, 513,
+                768, 1023, 1024, 2**15 - 1, 2**15, 2**15 + 1, 2**16 - 256, 2**16 - 253,
+                2**16 - 4, 2**16 - 2, 2**16 - 1)
 
-def record_frames():
-    chance = random.Random("record")
+
+def beyond(chance, count):
+    """Indexes that are not below the count. Those with k would find a record in
+    arithmetic of 16, 32 or 64 bits: themselves, or 12 times themselves."""
+    k = chance.randrange(count)
+    return [count, count + 1, 2**16, 2**16 + k, 2**30 + k, 2**31, 2**32 - 1, 2**32,
+            2**32 + k, 2**62 + k, 2**63, 2**64 - 1]
+
+
+def each(chance, count, others=4):
+    """Every index of a short list, and some beyond."""
+    return [*range(count), count, *chance.sample(beyond(chance, count), others)]
+
+
+def ends(chance, count):
+    return sorted({0, min(1, count - 1), count - 1, count, chance.randrange(count)})
+
+
+def some_records(chance, count):
+    return [chance.choice((chance.choice(NUMBERS), chance.randrange(2**32)))
+            for _ in range(3 * count)]
+
+
+def kind_frames(chance, new, share=1):
+    """Lists of one kind: CUT2 if new, else CUT1, drawn as in #101. A share of 4 makes a
+    quarter of what is tried many times."""
+    roundings = range(4)
+
+    def a_list(*given, **others):
+        """A list of any numbers. A new one has one of the roundings."""
+        if new:
+            others["rounding"] = chance.choice(roundings)
+        return make_list(*given, **others)
 
     def written(rows, rounding, **others):
-        """A list as the list call writes it."""
-        refusal, length, made = plate.cutter_list(
-            rounding, make_map(rows, **others), bytes(exact_length(rows)))
-        assert refusal == 0 and length == len(made)
-        return made
+        """The list of a map, as the list call writes it, or wrote it before #102."""
+        a_map = make_map(rows, **others)
+        assert plate.list_refusal(rounding, a_map, exact_length(rows)) == 0
+        return (plate.whole_list if new else plate.old_list)(rounding, a_map)
 
-    def beyond(count):
-        """Indexes that are not below the count. Those with k would find a record in
-        arithmetic of 16, 32 or 64 bits: themselves, or 12 times themselves."""
-        k = chance.randrange(count)
-        return [count, count + 1, 2**16, 2**16 + k, 2**30 + k, 2**31, 2**32 - 1, 2**32,
-                2**32 + k, 2**62 + k, 2**63, 2**64 - 1]
-
-    def each(count, others=4):
-        """Every index of a short list, and some beyond."""
-        return [*range(count), count, *chance.sample(beyond(count), others)]
-
-    def ends(count):
-        return sorted({0, min(1, count - 1), count - 1, count, chance.randrange(count)})
-
-    def some_records(count):
-        return [chance.choice((chance.choice(NUMBERS), chance.randrange(2**32)))
-                for _ in range(3 * count)]
+    trailer = a_list([])
+    tail = len(trailer)
 
     # Document 01's example.
     example = written(plane(3, 3, 1500, 0), plate.NEAREST, step=2000, radius=5000)
-    yield example, [0, *beyond(1)]
+    yield example, [0, *beyond(chance, 1)]
 
-    # Lists that the list call writes, in the four roundings.
-    for trial in range(24):
+    # Lists of maps, in the four roundings.
+    for trial in range(24 // share):
         w, d = chance.randint(3, 6), chance.randint(3, 6)
         rows = (cross(100000, -99999, 50000) if trial == 0 else steep(w, d) if trial < 4
                 else rough(chance, w, d, chance.choice((1, 20, 3000, 50000))))
         step, radius = chance.randint(1, 10000), chance.randint(1, 12500)
         for rounding in range(4):
             made = written(rows, rounding, step=step, radius=radius)
-            yield made, each((len(made) - 16) // 12)
+            yield made, each(chance, (len(made) - tail) // 12)
 
     # Long and thin, then middling.
     for w, d in ((3, 64), (64, 3)):
-        yield written(rough(chance, w, d, 4000), plate.DOWN, step=500), each(62, 1)
+        yield written(rough(chance, w, d, 4000), plate.DOWN, step=500), each(chance, 62, 1)
     for w, d in ((12, 20), (33, 7), (64, 4)):
         made = written(arched(w, d, 9000), plate.UP, radius=12500)
         count = (w - 2) * (d - 2)
-        yield made, ends(count) + [chance.randrange(count) for _ in range(20)] + beyond(count)
+        yield made, [*ends(chance, count), *(chance.randrange(count) for _ in range(20)),
+                     *beyond(chance, count)]
 
     # The largest, and one byte more. Row after row has 62 records.
     largest = written(rough(chance, 64, 64, 50000), plate.UP, step=10000, radius=12500)
     edges = [k * 62 + more for k in (0, 1, 2, 31, 61) for more in (0, 1, 60, 61)]
-    yield largest, [*edges, *(chance.randrange(62 * 62) for _ in range(32)), *beyond(62 * 62)]
+    yield largest, [*edges, *(chance.randrange(62 * 62) for _ in range(32)),
+                    *beyond(chance, 62 * 62)]
     yield bytes(1) + largest, [0, 62 * 62 - 1, 62 * 62]
 
     # Records with any values: each bit alone and each bit missing, then each of the
     # numbers as x, as y and as z, then anything.
     bits = [number for k in range(32) for number in (1 << k, ~(1 << k), -1 << k)]
-    yield make_list(bits, 4, 18), each(32)
+    yield a_list(bits, 4, 18), each(chance, 32)
     shifted = (NUMBERS[k:] + NUMBERS[:k] for k in (0, 7, 13))
     numbers = [number for record in zip(*shifted) for number in record]
-    yield make_list(numbers, 3, 2 + len(NUMBERS)), each(len(NUMBERS))
-    for _ in range(40):
+    yield a_list(numbers, 3, 2 + len(NUMBERS)), each(chance, len(NUMBERS))
+    for _ in range(40 // share):
         w, d = chance.randint(3, 6), chance.randint(3, 6)
-        made = make_list(some_records((w - 2) * (d - 2)), w, d, step=chance.randint(1, 10000),
-                         radius=chance.randint(1, 12500))
-        yield made, each((w - 2) * (d - 2), 2)
+        made = a_list(some_records(chance, (w - 2) * (d - 2)), w, d,
+                      step=chance.randint(1, 10000), radius=chance.randint(1, 12500))
+        yield made, each(chance, (w - 2) * (d - 2), 2)
 
     # Every edge of step and radius.
     for step in (1, 2, 9999, 10000):
         for radius in (1, 2, 10001, 12499, 12500):
-            yield make_list(some_records(1), step=step, radius=radius), SOME_INDEXES
+            yield a_list(some_records(chance, 1), step=step, radius=radius), SOME_INDEXES
 
     # w and d exchanged, and others of the same product of w - 2 and d - 2: accepted.
     # 4 x 6 has as many bytes of heights as of records. The rest disagree.
     for w, d in ((3, 8), (8, 3), (4, 5), (5, 4), (3, 9), (5, 8), (3, 7)):
-        yield make_list(some_records(6), w, d), ends(6)
+        yield a_list(some_records(chance, 6), w, d), ends(chance, 6)
     for w, d in ((4, 6), (6, 4), (3, 10), (10, 3), (5, 5)):
-        yield make_list(some_records(8), w, d), ends(8)
+        yield a_list(some_records(chance, 8), w, d), ends(chance, 8)
 
-    # 5: every length to 17, of what a list, a map and letters begin or end with.
-    trailer = make_list([])
-    for whole in (example, trailer + bytes(1), bytes(1) + trailer, make_list([], distance=12),
-                  make_map(flat(3, 3)), b"CUT1" * 5, bytes(17), b"\xff" * 17):
-        for length in range(18):
+    # What follows is refused before 2 is asked, so half of the roundings are wrong.
+    roundings = (0, 1, 2, 3) * (len(NO_ROUNDINGS) // 4) + NO_ROUNDINGS
+
+    # 5: every length to one more than a trailer's, of what a list, a map and letters
+    # begin or end with.
+    for whole in (example, trailer + bytes(1), bytes(1) + trailer, a_list([], distance=12),
+                  make_map(flat(3, 3)), trailer[:4] * 5, bytes(tail + 1), b"\xff" * (tail + 1)):
+        for length in range(tail + 2):
             for cut in sorted({whole[:length], whole[len(whole) - length:]}):
                 yield cut, chance.sample(SOME_INDEXES, 2)
 
     # 12: letters, those of other kinds of list at their own places too.
     for letters in (b"DUT1", b"CVT1", b"CUU1", b"CUT2", b"CUT3", b"CUT0", b"cut1", b"PLT1",
                     b"1TUC", b"\0\0\0\0", b"CUT\xb1", b"CUT\0", b"\0UT1", b"TUC1"):
-        yield make_list(some_records(1), letters=letters), SOME_INDEXES
+        yield a_list(some_records(chance, 1), letters=letters), SOME_INDEXES
     for behind in (b"\0", b"\0\0", bytes(4), b"CUT1", bytes(12), bytes(16), trailer[:15]):
         for letters in (b"CUT1", b"CUT2", b"CUT3"):
-            yield make_list(some_records(1), letters=letters, behind=behind), SOME_INDEXES
+            yield a_list(some_records(chance, 1), letters=letters, behind=behind), SOME_INDEXES
     for rounding in range(5):
         behind = struct.pack("<H", rounding)
-        yield make_list(some_records(2), 4, 3, b"CUT2", behind=behind), ends(2)
-        yield make_list(some_records(2), 4, 3, b"CUT3", behind=bytes(2) + behind), ends(2)
+        yield a_list(some_records(chance, 2), 4, 3, b"CUT2", behind=behind), ends(chance, 2)
+        behind = bytes(2) + behind
+        yield a_list(some_records(chance, 2), 4, 3, b"CUT3", behind=behind), ends(chance, 2)
     yield make_map(flat(3, 3)), SOME_INDEXES
     yield bytes(46), SOME_INDEXES
     # A second trailer behind: it speaks for the whole, which is too long.
-    yield make_list(some_records(1)) + trailer, SOME_INDEXES
+    yield a_list(some_records(chance, 1)) + trailer, SOME_INDEXES
     yield example * 2, SOME_INDEXES
 
     # 7: w and d, with records and distances that agree where that is possible.
     for size in (0, 1, 2, 65, 66, 128, 256, 259, 768, 32771, 65535):
         for w, d in ((size, 3), (3, size), (size, 64), (size, size)):
             count = (w - 2) * (d - 2)
-            records = some_records(count if 0 <= count < 70 else 1)
-            yield make_list(records, w, d, distance=12 * count), SOME_INDEXES[:2]
+            records = some_records(chance, count if 0 <= count < 70 else 1)
+            yield a_list(records, w, d, distance=12 * count), SOME_INDEXES[:2]
 
     # 8: step and radius.
     for step, radius in ((0, 1), (1, 0), (0, 0), (10001, 12500), (10000, 12501), (12500, 1),
                          (10001, 12501), (65535, 1), (1, 65535), (32769, 1), (1, 32769),
                          (256, 0), (0, 256)):
-        yield make_list(some_records(1), step=step, radius=radius), SOME_INDEXES
+        yield a_list(some_records(chance, 1), step=step, radius=radius), SOME_INDEXES
 
     # 13: the distance back, then the whole length, then both in step.
     for w, d in ((3, 3), (4, 5)):
         count = (w - 2) * (d - 2)
         right = 12 * count
         for distance in (0, 1, right - 12, right - 1, right + 1, right + 4, right + 12,
-                         right + 16, 4 * w * d, 12 * w * d, right + 2**8, right + 2**16,
-                         right + 2**24, right + 2**31, -right, -1, -16, 2**31):
-            yield make_list(some_records(count), w, d, distance=distance), ends(count)
+                         right + tail, 4 * w * d, 12 * w * d, right + 2**8, right + 2**16,
+                         right + 2**24, right + 2**31, -right, -1, -tail, 2**31):
+            yield a_list(some_records(chance, count), w, d, distance=distance), ends(chance, count)
         for front in (b"\0", bytes(4), b"CUT1", bytes(12), trailer, bytes(right)):
             for distance in (right, right + len(front)):
-                yield make_list(some_records(count), w, d, front=front,
-                                distance=distance), ends(count)
+                yield a_list(some_records(chance, count), w, d, front=front,
+                             distance=distance), ends(chance, count)
         for missing in (1, 4, 11, 12, right):
             for distance in (right, right - missing):
-                made = make_list(some_records(count), w, d, distance=distance)
-                yield made[missing:], ends(count)
+                made = a_list(some_records(chance, count), w, d, distance=distance)
+                yield made[missing:], ends(chance, count)
         # As long as a map of these sizes.
-        yield make_list([0] * (w * d), w, d), ends(count)
+        yield a_list([0] * (w * d), w, d), ends(chance, count)
 
     # Faults 12, 7, 8 and 13 by two, by three and all at once; 14 is with them in
     # the later indexes.
@@ -576,24 +609,107 @@ def record_frames():
                    dict(front=bytes(12), distance=24))}
     for count in (2, 3, 4):
         for chosen in itertools.combinations(faults, count):
-            for _ in range(8):
+            for _ in range(8 // share):
                 settings = {}
                 for number in chosen:
                     settings.update(chance.choice(faults[number]))
-                yield make_list(some_records(1), **settings), SOME_INDEXES
+                yield a_list(some_records(chance, 1), **settings), SOME_INDEXES
 
-    # Written lists with one byte changed, of the trailer in every second.
-    for trial in range(600):
+    # Lists of maps with one byte changed, of the trailer in every second.
+    for trial in range(600 // share):
         rows = rough(chance, chance.randint(3, 5), chance.randint(3, 5), 20000)
         made = bytearray(written(rows, trial % 4, step=chance.randint(1, 10000),
                                  radius=chance.randint(1, 12500)))
-        place = len(made) - 16 + chance.randrange(16) if trial % 2 else chance.randrange(len(made))
+        place = chance.randrange(tail) - tail if trial % 2 else chance.randrange(len(made))
         made[place] ^= chance.randint(1, 255)
-        count = (len(made) - 16) // 12
+        count = (len(made) - tail) // 12
         yield bytes(made), sorted({0, chance.randrange(count), count - 1, count})
 
 
-RECORD_ROOM = 260000            # the program record_vectors is given fewer bytes
+def both_frames(chance):
+    """Roundings, and lists of one kind that could be taken for the other."""
+    a_map = make_map(plane(3, 3, 1500, 0), step=2000, radius=5000)
+    old, new = plate.old_list(plate.UP, a_map), plate.whole_list(plate.UP, a_map)
+    trailer, new_trailer = old[12:], new[12:]
+
+    def both(numbers, *sizes, **others):
+        for rounding in (None, chance.randrange(4)):
+            yield make_list(numbers, *sizes, rounding=rounding, **others)
+
+    # Document 01's example, in the four roundings.
+    for rounding in range(4):
+        yield plate.whole_list(rounding, a_map), [0, *beyond(chance, 1)]
+
+    # 2: every rounding that is written, and roundings that are not.
+    for rounding in (0, 1, 2, 3, *NO_ROUNDINGS):
+        yield make_list(some_records(chance, 2), 3, 4, rounding=rounding), ends(chance, 2)
+
+    # Two of the numbers behind the distance exchanged.
+    for fields in ((5, 4, 30, 40, 3), (4, 3, 2, 1, 0), (3, 3, 3, 2, 1), (3, 4, 4, 5, 3)):
+        count = (fields[0] - 2) * (fields[1] - 2)
+        for one, other in itertools.combinations(range(5), 2):
+            exchanged = list(fields)
+            exchanged[one], exchanged[other] = fields[other], fields[one]
+            w, d, step, radius, rounding = exchanged
+            yield make_list(some_records(chance, count), w, d, step=step, radius=radius,
+                            rounding=rounding), ends(chance, count)
+
+    # 16 to 19 bytes, with room for one of the trailers or for both.
+    for whole in (old, trailer + bytes(3), bytes(3) + trailer, b"CUT2" + trailer,
+                  make_list([], distance=12, rounding=4)):
+        for length in range(16, min(len(whole), 19) + 1):
+            for cut in sorted({whole[:length], whole[-length:]}):
+                yield cut, SOME_INDEXES[:2]
+
+    # 12: letters at both places, then CUT1 at CUT2's. CUT2 at CUT1's is above.
+    for letters in (b"DUT2", b"CVT2", b"CUU2", b"cut2", b"2TUC", b"CUT\xb2", b"\0UT2", b"CUT\2"):
+        for made in both(some_records(chance, 1), letters=letters):
+            yield made, SOME_INDEXES
+    for rounding in (0, 1, 2, 3, 4, 256):
+        yield make_list(some_records(chance, 1), letters=b"CUT1", rounding=rounding), SOME_INDEXES
+    # Each kind at every place from 13 to 22 bytes from the end; at its own it is sound.
+    for letters in (b"CUT1", b"CUT2", b"CUT3"):
+        for more in range(-3, 7):
+            made = make_list(some_records(chance, 2), 4, 3, letters)
+            yield made[:more] if more < 0 else made + bytes(more), ends(chance, 2)
+        for behind in (b"\1", b"\1\0", b"\0\1", b"\4\0", b"CUT2", new_trailer[:15],
+                       new_trailer[:17]):
+            yield make_list(some_records(chance, 1), letters=letters, behind=behind), SOME_INDEXES
+
+    # Letters in the records: just before the trailer, half of them, a list in a list.
+    for letters in (b"CUT1", b"CUT2", b"\0\0CU", b"T1CU", b"T2CU", b"UCUT", b"2CUT"):
+        numbers = [*some_records(chance, 1), 0, plate.whole(b"CUT2"), plate.whole(letters)]
+        for made in both(numbers, 4, 3):
+            yield made, ends(chance, 2)
+    for inner, more in itertools.product((old, new), range(4)):
+        body = inner + bytes(more)
+        body = bytes(-len(body) % 12) + body
+        count = len(body) // 12
+        numbers = [plate.whole(body[k:k + 4]) for k in range(0, len(body), 4)]
+        for made in both(numbers, 3, 2 + count):
+            yield made, ends(chance, count)
+    # The other kind's trailer, or a list of it, behind.
+    for one, other in ((old, new_trailer), (old, new), (new, trailer), (new, old)):
+        yield one + other, SOME_INDEXES
+
+    # 13: distances and lengths that are between the kinds, two bytes more or fewer.
+    for rounding in (None, 2, 5):
+        for start, distance in ((2, 22), (2, 26), (2, 40), (2, 42), (2, -16), (2, -18),
+                                (2, plate.whole(b"CUT1")), (2, plate.whole(b"CUT2")),
+                                (0, 24), (0, 26), (4, 22), (4, 24)):
+            made = make_list(some_records(chance, 2), 3, 4, front=bytes(2), distance=distance,
+                             rounding=rounding)
+            yield made[start:], ends(chance, 2)
+
+
+def record_frames():
+    # The lists of #101 stand first, as they were.
+    yield from kind_frames(random.Random("record"), new=False)
+    yield from kind_frames(random.Random("record CUT2"), new=True, share=4)
+    yield from both_frames(random.Random("record CUT1 and CUT2"))
+
+
+RECORD_ROOM = 400000            # the program record_vectors is given fewer bytes
 
 
 def record_files():
@@ -603,8 +719,11 @@ def record_files():
         given.append(struct.pack(f"<II{len(some_list)}s{len(indexes)}Q", len(some_list),
                                  len(indexes), some_list, *indexes))
         for index in indexes:
-            expected.append("%d %d %d %d %d %d %d %d\n" % plate.record(some_list, index))
+            refusal, rounding, *numbers = plate.record(some_list, index)
+            known = "-" if rounding is None else rounding
+            expected.append(" ".join(map(str, (refusal, known, *numbers))) + "\n")
     assert sum(map(len, given)) < RECORD_ROOM
+    assert digest(b"".join(given[:1293])) == 16439872      # the lists of #101, unchanged
     return b"".join(given), "".join(expected).encode()
 
 

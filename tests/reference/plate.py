@@ -3,16 +3,18 @@
 Whole numbers and fractions only, no floats. It is written to be laid beside
 the documents, not to be fast. The order is document 01's: raw unit, binary32
 unit, map and list, questions at the door, the program platelist. Of document
-02 it has request #101, the reader, which stands with the list.
+02 it has requests #101, the reader, and #102, the rounding in the list, which
+stand with the list.
 
     raw(operation, significand, parity)            -> (refusal, answer)
     binary32(operation, rounding, bits, status)    -> (refusal, bits, status)
     cutter_list(rounding, map_bytes, buffer_bytes) -> (refusal, length, buffer)
-    record(list_bytes, index)                      -> (refusal, w, d, step,
-                                                       radius, x, y, z)
+    record(list_bytes, index)                      -> (refusal, rounding, w, d,
+                                                       step, radius, x, y, z)
     platelist(input_bytes)                         -> output bytes
 
-Refusal 0 means that the call was accepted.
+Refusal 0 means that the call was accepted. The rounding of a list is None where
+it is unknown, and after a refusal.
 Run as a program it is platelist: python3 plate.py < map
 """
 
@@ -188,7 +190,8 @@ def binary32(operation, rounding, bits, status):
 
 # ------------------------------------------------------------ Map and list
 
-TRAILER = 16
+TRAILER = 16                    # of a map, and of document 01's lists
+LIST_TRAILER = 18               # of the lists written since #102
 
 
 def whole(some_bytes):
@@ -200,10 +203,30 @@ def signed(some_bytes):
     return int.from_bytes(some_bytes, "little", signed=True)
 
 
-def sizes(some_bytes):
-    """w, d, step and radius from the last 8 bytes of a map or a list."""
-    last = some_bytes[-8:]
-    return whole(last[0:2]), whole(last[2:4]), whole(last[4:6]), whole(last[6:8])
+def trailer(some_bytes, letters, length):
+    """The last bytes, this many, where the letters stand at their front; else None."""
+    last = some_bytes[-length:]
+    return last if len(last) == length and last[:4] == letters else None
+
+
+def map_trailer(map_bytes):
+    return trailer(map_bytes, b"PLT1", TRAILER)
+
+
+def list_trailer(list_bytes):
+    """#102 looks for document 01's kind, then for its own."""
+    return (trailer(list_bytes, b"CUT1", TRAILER)
+            or trailer(list_bytes, b"CUT2", LIST_TRAILER))
+
+
+def sizes(end):
+    """The w, d, step and radius that a trailer states."""
+    return whole(end[8:10]), whole(end[10:12]), whole(end[12:14]), whole(end[14:16])
+
+
+def stated_rounding(end):
+    """The rounding that a list's trailer states, None where it has no place for one."""
+    return whole(end[16:18]) if len(end) == LIST_TRAILER else None
 
 
 def heights(map_bytes):
@@ -237,7 +260,7 @@ def centre(rounding, c, row, height, dx, dy, step, radius):
 
 def centres(rounding, map_bytes):
     """One (x, y, z) per inner point of an accepted map, row by row."""
-    w, d, step, radius = sizes(map_bytes)
+    w, d, step, radius = sizes(map_trailer(map_bytes))
     all_heights = heights(map_bytes)
 
     def height(c, row):
@@ -258,17 +281,26 @@ def record_count(w, d):
 
 
 def list_length(w, d):
-    return 12 * record_count(w, d) + TRAILER
+    return 12 * record_count(w, d) + LIST_TRAILER
 
 
-def whole_list(rounding, map_bytes):
-    """The whole list of an accepted map."""
+def up_to_radius(rounding, map_bytes, letters):
+    """The list of an accepted map as far as both kinds of list have the same places."""
     records = b"".join(
         number.to_bytes(4, "little", signed=True)
         for record in centres(rounding, map_bytes)
         for number in record)
-    trailer = b"CUT1" + len(records).to_bytes(4, "little") + map_bytes[-8:]
-    return records + trailer
+    return records + letters + len(records).to_bytes(4, "little") + map_bytes[-8:]
+
+
+def old_list(rounding, map_bytes):
+    """Document 01's list, whole. No call writes it since #102."""
+    return up_to_radius(rounding, map_bytes, b"CUT1")
+
+
+def whole_list(rounding, map_bytes):
+    """The whole list since #102, with the rounding after the radius."""
+    return up_to_radius(rounding, map_bytes, b"CUT2") + rounding.to_bytes(2, "little")
 
 
 def cutter_list(rounding, map_bytes, buffer_bytes):
@@ -280,13 +312,15 @@ def cutter_list(rounding, map_bytes, buffer_bytes):
 
 
 def record(list_bytes, index):
-    """Document 02, #101: the sizes of a list and one record of it."""
+    """Document 02, #101 and #102: the rounding and the sizes of a list and one
+    record of it."""
     refusal = record_refusal(list_bytes, index)
     if refusal:
-        return refusal, 0, 0, 0, 0, 0, 0, 0
+        return refusal, None, 0, 0, 0, 0, 0, 0, 0
+    end = list_trailer(list_bytes)
     place = 12 * index
     x, y, z = (signed(list_bytes[k:k + 4]) for k in (place, place + 4, place + 8))
-    return 0, *sizes(list_bytes), x, y, z
+    return 0, stated_rounding(end), *sizes(end), x, y, z
 
 
 # --------------------------------------------------- Questions at the door
@@ -299,11 +333,6 @@ def rounding_known(rounding):                                          # 2
     return 0 <= rounding <= 3
 
 
-def letters(some_bytes):                                               # 6, 12
-    """The four letters at the front of the last 16 bytes."""
-    return some_bytes[-TRAILER:][:4]
-
-
 def width_and_depth_fit(w, d):                                         # 7
     return 3 <= w <= 64 and 3 <= d <= 64
 
@@ -312,10 +341,11 @@ def step_and_radius_fit(step, radius):                                 # 8
     return 1 <= step <= 10000 and 1 <= radius <= 12500
 
 
-def body_agrees(some_bytes, body):                                     # 9, 13
-    """Whether the distance back is this many bytes, and the whole that plus 16."""
-    distance = whole(some_bytes[-TRAILER:][4:8])
-    return distance == body and len(some_bytes) == distance + TRAILER
+def body_agrees(some_bytes, end, body):                                # 9, 13
+    """Whether the distance back is this many bytes, and the whole that plus the
+    trailer."""
+    distance = whole(end[4:8])
+    return distance == body and len(some_bytes) == distance + len(end)
 
 
 def raw_refusal(operation, significand, parity):
@@ -336,13 +366,14 @@ def binary32_refusal(operation, rounding):
     return 0
 
 
-def trailer_refusal(some_bytes, name, number):
-    """What a map and a list are asked alike; the letters have a number of their own."""
+def trailer_refusal(some_bytes, end, number):
+    """What a map and a list are asked alike. end is the trailer, None where its
+    letters were not found; that has a number of its own, 6 or 12."""
     if not len(some_bytes) >= TRAILER:
         return 5
-    if not letters(some_bytes) == name:
+    if end is None:
         return number
-    w, d, step, radius = sizes(some_bytes)
+    w, d, step, radius = sizes(end)
     if not width_and_depth_fit(w, d):
         return 7
     if not step_and_radius_fit(step, radius):
@@ -353,11 +384,12 @@ def trailer_refusal(some_bytes, name, number):
 def list_refusal(rounding, map_bytes, buffer_length):
     if not rounding_known(rounding):
         return 2
-    refusal = trailer_refusal(map_bytes, b"PLT1", 6)
+    end = map_trailer(map_bytes)
+    refusal = trailer_refusal(map_bytes, end, 6)
     if refusal:
         return refusal
-    w, d, _, _ = sizes(map_bytes)
-    if not body_agrees(map_bytes, 4*w*d):
+    w, d, _, _ = sizes(end)
+    if not body_agrees(map_bytes, end, 4*w*d):
         return 9
     if not all(-50000 <= height <= 50000 for height in heights(map_bytes)):
         return 10
@@ -368,12 +400,16 @@ def list_refusal(rounding, map_bytes, buffer_length):
 
 def reader_refusal(list_bytes):
     """What the reader asks of a list before it looks at the index."""
-    refusal = trailer_refusal(list_bytes, b"CUT1", 12)
+    end = list_trailer(list_bytes)
+    refusal = trailer_refusal(list_bytes, end, 12)
     if refusal:
         return refusal
-    w, d, _, _ = sizes(list_bytes)
-    if not body_agrees(list_bytes, 12 * record_count(w, d)):
+    w, d, _, _ = sizes(end)
+    if not body_agrees(list_bytes, end, 12 * record_count(w, d)):
         return 13
+    rounding = stated_rounding(end)
+    if not (rounding is None or rounding_known(rounding)):
+        return 2
     return 0
 
 
@@ -381,7 +417,7 @@ def record_refusal(list_bytes, index):
     refusal = reader_refusal(list_bytes)
     if refusal:
         return refusal
-    w, d, _, _ = sizes(list_bytes)
+    w, d, _, _ = sizes(list_trailer(list_bytes))
     if not 0 <= index < record_count(w, d):
         return 14
     return 0
@@ -390,7 +426,7 @@ def record_refusal(list_bytes, index):
 # ------------------------------------------------------- Program platelist
 
 LONGEST_MAP = 16400
-LONGEST_LIST = 46144
+LONGEST_LIST = 46146
 
 
 def platelist(input_bytes):
@@ -399,9 +435,9 @@ def platelist(input_bytes):
     refusal, length, made = cutter_list(NEAREST, input_bytes, bytes(LONGEST_LIST))
     if refusal:
         return b"refused %d\n" % refusal
-    w, d, step, radius = sizes(input_bytes)
+    w, d, step, radius = sizes(map_trailer(input_bytes))
     lines = [(w, d, step, radius)]
-    numbers = [signed(made[k:k + 4]) for k in range(0, length - TRAILER, 4)]
+    numbers = [signed(made[k:k + 4]) for k in range(0, length - LIST_TRAILER, 4)]
     for row in range(1, d - 1):
         for c in range(1, w - 1):
             record = 3 * ((row - 1) * (w - 2) + c - 1)

@@ -1,22 +1,23 @@
--- Down and up for the list: two lists of one map are equal exactly where the map is exact, and two entries that differ are neighbours.
--- Assumes nothing.
+-- Down and up for the list: the records of two lists of one map are equal exactly where the map is exact, two entries that differ are
+-- neighbours, and the trailers differ in the rounding alone. Assumes nothing.
 use mathlib.Core.Path.{_≡_, sym, ap, _∙_}
 use mathlib.Core.List.{List}
 use mathlib.Core.Logic.{_↔_}
-use Prim.Native.Nat.{ℕ, _<_}
-use lib.ListN.{length}
+use Prim.Native.Nat.{ℕ, _*_, _<_}
+use lib.ListN.{length, drop}
 use lib.IntN.{ℤ, pos, _+ℤ_}
 use Rattle.kinds.specs.declared.Mode.the-variants.{Up, Down}
+use Rattle.words.specs.Word.{halfBytes}
 use Rattle.cutter.specs.Map.{widthOf, depthOf, stepOf, radiusOf}
 use Rattle.cutter.specs.Centre.{Point, coordinate}
-use Rattle.cutter.specs.List.{countOf, innerPoint, centreAt, listBytes}
+use Rattle.cutter.specs.List.{countOf, innerPoint, centreAt, allRecords}
 use Rattle.cutter.specs.Call.{listRefusal}
 use Rattle.cutter.specs.Agree.{ExactAt, ExactMap}
 use Rattle.cutter.specs.Accepted.{Accepted}
 use Rattle.cutter.proofs.Accepted.{accepted-of, map-asked}
 use Rattle.cutter.proofs.Places.{inner-at, at-every}
 use Rattle.cutter.proofs.Points.{centre-at, inner-in-range}
-use Rattle.cutter.proofs.Entries.{same-centres, same-bytes, list-held}
+use Rattle.cutter.proofs.Entries.{same-centres, same-records, list-held, trailerFront, length-trailer-front, list-end}
 use Rattle.bracket.specs.Bracket.{CentreBracket, ListBracket}
 use Rattle.bracket.proofs.Centre.{centre-bracket}
 
@@ -30,12 +31,12 @@ module _ (m : List ℕ) {room : ℕ} (a : Accepted m room) where
       → (centreAt Down m n ≡ centreAt Up m n) ↔ ExactAt (stepOf m) (radiusOf m) (innerPoint m n)
   centres-equal n h = rw (centre-at Down m n, centre-at Up m n) (at-point n h .equal)
 
-  -- the lists are equal where the map is exact
-  lists-equal : (listBytes Down m ≡ listBytes Up m) ↔ ExactMap m
-  lists-equal = (
+  -- the records are equal where the map is exact
+  records-equal : (allRecords Down m ≡ allRecords Up m) ↔ ExactMap m
+  records-equal = (
     λ e. at-every m (λ (p : Point). ExactAt (stepOf m) (radiusOf m) p) (a .trailed .sizes .wide)
         (λ n h. centres-equal n h .0 (same-centres Down Up m a e n h)),
-    λ x. same-bytes Down Up m (λ n h. centres-equal n h .1 (x _ _ (inner-at (widthOf m) (depthOf m) (a .trailed .sizes .wide) n h))),
+    λ x. same-records Down Up m (λ n h. centres-equal n h .1 (x _ _ (inner-at (widthOf m) (depthOf m) (a .trailed .sizes .wide) n h))),
   )
 
   -- coordinates that differ are one apart
@@ -46,15 +47,24 @@ module _ (m : List ℕ) {room : ℕ} (a : Accepted m room) where
 
 -- demand 3 for the list: whatever the two lent buffers held
 pub list-bracket : (m a b : List ℕ) → listRefusal 2 m (length a) ≡ 0 → listRefusal 1 m (length b) ≡ 0 → ListBracket m a b
+unfolding halfBytes
 list-bracket m a b ea eb =
     let acc = accepted-of m (length a) (map-asked 2 m (length a) ea) in
     let low = list-held 2 m a ea in
     let high = list-held 1 m b eb in
-    let eq = lists-equal m acc in
+    let eq = records-equal m acc in
+    let n : ℕ = 12 * countOf (widthOf m) (depthOf m) in
     record {
-      equal = (λ e. eq .0 (sym (low .front) ∙ e ∙ high .front), λ x. low .front ∙ eq .1 x ∙ sym (high .front));
+      equal = (λ e. eq .0 (sym (low .records) ∙ e ∙ high .records), λ x. low .records ∙ eq .1 x ∙ sym (high .records));
       next = λ n j h l d.
           let p = low .entry n j h l in
           let q = high .entry n j h l in
           q ∙ entries-next m acc n j h (λ e. d (p ∙ e ∙ sym q)) ∙ ap (λ (z : ℤ). z +ℤ pos 1) (sym p);
+      ends =
+          record {
+            alike = trailerFront m;
+            long = length-trailer-front m;
+            lower-end = ap (drop n) (low .front) ∙ list-end Down m;
+            upper-end = ap (drop n) (high .front) ∙ list-end Up m;
+          };
     }

@@ -2,8 +2,8 @@
 use Prim.Native.Nat.{ℕ, _*_, _<_}
 use mathlib.Core.Path.{_≡_}
 use mathlib.Core.Logic.{_↔_, _⊎_}
-use mathlib.Core.List.{List}
-use lib.ListN.{take}
+use mathlib.Core.List.{List, [], _∷_, _++_}
+use lib.ListN.{length, take, drop}
 use lib.IntN.{ℤ, pos, natAbs, _+ℤ_}
 use Rattle.kinds.specs.declared.Mode.the-variants.{Up, Down}
 use Rattle.cutter.specs.Offset.{offsetOf, MultipleOf}
@@ -37,10 +37,22 @@ pub record CentreBracket (step radius : ℕ) (p : Point) : Type 0 where
       → (coordinate (centreOf Down step radius p) j ≡ coordinate (centreOf Up step radius p) j → ⊥)
       → coordinate (centreOf Up step radius p) j ≡ coordinate (centreOf Down step radius p) j +ℤ pos 1
 
--- Two lists of one map, rounded down (2) over a lent buffer a and up (1) over b: byte for byte, over the length reported, they are
--- equal exactly where the map is exact at every inner point; of two entries that differ, the upper is larger by one micrometre
+-- Behind n bytes two lists end alike but for the last two: the rounding, 2 in the lower list and 1 in the upper
+pub record EndsAlike (n : ℕ) (lower upper : List ℕ) : Type 0 where
+  pub alike : List ℕ
+  pub long : length alike ≡ 16
+  pub lower-end : drop n lower ≡ alike ++ 2 ∷ 0 ∷ []
+  pub upper-end : drop n upper ≡ alike ++ 1 ∷ 0 ∷ []
+
+-- Two lists of one map, rounded down (2) over a lent buffer a and up (1) over b: their records are equal byte for byte exactly where the
+-- map is exact at every inner point; of two entries that differ, the upper is larger by one micrometre; behind the records, over the
+-- length reported, they end alike but for the rounding
 pub record ListBracket (m a b : List ℕ) : Type 0 where
-  pub equal : (take (listLength m) (bufferAfter 2 m a) ≡ take (listLength m) (bufferAfter 1 m b)) ↔ ExactMap m
+  pub equal :
+      (take (12 * countOf (widthOf m) (depthOf m)) (bufferAfter 2 m a) ≡ take (12 * countOf (widthOf m) (depthOf m)) (bufferAfter 1 m b))
+      ↔ ExactMap m
   pub next : (n j : ℕ) → n < countOf (widthOf m) (depthOf m) → j < 3
       → (entryAt (bufferAfter 2 m a) n j ≡ entryAt (bufferAfter 1 m b) n j → ⊥)
       → entryAt (bufferAfter 1 m b) n j ≡ entryAt (bufferAfter 2 m a) n j +ℤ pos 1
+  pub ends :
+      EndsAlike (12 * countOf (widthOf m) (depthOf m)) (take (listLength m) (bufferAfter 2 m a)) (take (listLength m) (bufferAfter 1 m b))

@@ -15,11 +15,11 @@ use Rattle.words.specs.Word.{wordAt}
 use Rattle.words.specs.Signed.{signed}
 use Rattle.words.specs.Splice.{splice}
 use Rattle.words.proofs.Differences.{either}
-use Rattle.trailer.specs.Kinds.{lengthOf}
+use Rattle.trailer.specs.Kinds.{lengthOf, newList}
 use Rattle.trailer.specs.Bytes.{lastFields, endsIn}
 use Rattle.trailer.proofs.Readings.{ends-fit}
 use Rattle.trailer.specs.declared.Kind.{Kind}
-use Rattle.trailer.specs.declared.Kind.the-variants.{Plt1, Cut1}
+use Rattle.trailer.specs.declared.Kind.the-variants.{Plt1}
 use Rattle.trailer.specs.declared.Fields.{Fields}
 use Rattle.cutter.specs.Limits.{bytesLeast, sideLeast, sideMost, stepMost, radiusMost, heightMost}
 use Rattle.cutter.specs.Map.{trailerOf, distanceOf, widthOf, depthOf}
@@ -141,7 +141,7 @@ accepted-of m room e =
     }
 
 -- a buffer for a list of 62 × 62 records holds every list: question 11 is then never answered "no"
-pub always-room : (m : List ℕ) (room : ℕ) → 12 * countOf sideMost sideMost + lengthOf Cut1 ≤ room → mapRefusal m room ≡ 11 → ⊥
+pub always-room : (m : List ℕ) (room : ℕ) → 12 * countOf sideMost sideMost + lengthOf newList ≤ room → mapRefusal m room ≡ 11 → ⊥
 unfolding mapRefusal heightsRefusal listLength
 always-room m room h e =
     let w : ℕ = widthOf m in
@@ -150,7 +150,7 @@ always-room m room h e =
     let a9 = later (isWhole Plt1 (4 * (w * d)) (distanceOf m) (length m)) 9 _ 11 (λ z. omega arith) (both .1) in
     let a10 = later (heightsWithin m (w * d)) 10 _ 11 (λ z. omega arith) (a9 .1) in
     let most = count-most w d (trailed-of Plt1 6 m (lit< tt) (both .0) .sizes) in
-    let room-is : hasRoom m room ≡ true = le-leb (12 * countOf w d + lengthOf Cut1) room (omega (arith, most)) in
+    let room-is : hasRoom m room ≡ true = le-leb (12 * countOf w d + lengthOf newList) room (omega (arith, most)) in
     let zero-is : _≡_ {A = ℕ} 0 11 = ask-yes (hasRoom m room) 11 0 0 room-is refl ∙ a10 .1 in
     omega arith
 
@@ -168,7 +168,7 @@ module _ (m : List ℕ) (room : ℕ) (z : mapRefusal m room ≡ 0) where
     pub sizes-of : Sizes (t .width) (t .depth)
     sizes-of = ready-of .sizes
 
-    pub held-of : 12 * countOf (t .width) (t .depth) + lengthOf Cut1 ≤ room
+    pub held-of : 12 * countOf (t .width) (t .depth) + lengthOf newList ≤ room
     unfolding listLength
     held-of = rw e (accepted-of m room z .held)
 
@@ -177,6 +177,10 @@ module _ (m : List ℕ) (room : ℕ) (z : mapRefusal m room ≡ 0) where
 pub map-asked : (rounding : ℕ) (m : List ℕ) (room : ℕ) → listRefusal rounding m room ≡ 0 → mapRefusal m room ≡ 0
 unfolding listRefusal
 map-asked rounding m room e = yes (isRounding rounding) 1 (mapRefusal m room) e .1
+
+pub rounding-asked : (rounding : ℕ) (m : List ℕ) (room : ℕ) → listRefusal rounding m room ≡ 0 → rounding ≤ 3
+unfolding listRefusal
+rounding-asked rounding m room e = leb-true rounding 3 (sure _ (yes (isRounding rounding) 1 (mapRefusal m room) e .0))
 
 -- how the code asks them
 pub two : (rounding : ℕ) (m : List ℕ) (room : ℕ) (known : Bool) → known ≡ isRounding rounding → not known ≡ true → 2 ≡ listRefusal rounding m room

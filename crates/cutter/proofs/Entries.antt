@@ -1,28 +1,30 @@
 -- What the lent buffer holds after an accepted call: each entry of the list is a coordinate of its centre. Assumes nothing.
-use mathlib.Core.Path.{_≡_, sym, ap, _∙_}
+use mathlib.Core.Path.{_≡_, refl, sym, ap, ap₂, _∙_}
 use mathlib.Core.List.{List, _++_, append-assoc}
 use Prim.Native.Nat.{ℕ, zero, suc, _+_, _*_, _<_}
 use native.Mathlib.Omega.{arith}
-use lib.ListN.{length, drop}
+use lib.ListN.{length, take, drop}
+use lib.Seq.{take-append-seam, drop-append-seam}
 use lib.IntN.{natAbs}
 use Rattle.kinds.specs.declared.Mode.{Mode}
-use Rattle.kinds.specs.Rounding.{modeOf}
-use Rattle.words.specs.Word.{wordAt}
+use Rattle.kinds.specs.declared.Mode.the-variants.{Nearest}
+use Rattle.kinds.specs.Rounding.{modeOf, numberOf}
+use Rattle.words.specs.Word.{wordAt, halfBytes, wordBytes}
 use Rattle.words.specs.Signed.{signed, wordOf}
 use Rattle.words.specs.Splice.{splice}
-use Rattle.words.specs.Joined.{joined}
 use Rattle.words.proofs.Differences.{word-small, signed-word}
 use Rattle.words.proofs.Splicing.{splice-take, splice-drop, three-back}
 use Rattle.words.proofs.Runs.{joined-same, joined-apart, joined-word}
-use Rattle.trailer.specs.Bytes.{trailerBytes}
-use Rattle.trailer.specs.declared.Kind.the-variants.{Cut1}
-use Rattle.cutter.specs.Map.{widthOf, depthOf}
+use Rattle.trailer.specs.Kinds.{lettersOf, newList}
+use Rattle.trailer.specs.Bytes.{frontBytes, trailerBytes}
+use Rattle.trailer.specs.declared.Kind.{Kind}
+use Rattle.cutter.specs.Map.{widthOf, depthOf, radiusOf}
 use Rattle.cutter.specs.Centre.{Centre, coordinate, recordBytes}
-use Rattle.cutter.specs.List.{countOf, centreAt, recordAt, listFields, listBytes, entryAt}
+use Rattle.cutter.specs.List.{countOf, centreAt, recordAt, allRecords, listFields, listOf, listBytes, entryAt}
 use Rattle.cutter.specs.Call.{listRefusal, bufferAfter}
 use Rattle.cutter.specs.Held.{ListHeld}
 use Rattle.cutter.specs.Accepted.{Accepted}
-use Rattle.cutter.proofs.Lengths.{length-record, length-list}
+use Rattle.cutter.proofs.Lengths.{length-record, length-records, length-list}
 use Rattle.cutter.proofs.Accepted.{accepted-of, map-asked, accepted-answer, accepted-buffer}
 use Rattle.cutter.proofs.Points.{same-centre, centre-small}
 
@@ -45,46 +47,72 @@ record-entry k h j l = ap signed (word-at j l) ∙ signed-word (coordinate k j) 
 -- ---- two lists of a map
 
 module _ (a b : Mode) (m : List ℕ) where
-  -- the same bytes come from the same centres
-  pub same-centres : {room : ℕ} → Accepted m room → listBytes a m ≡ listBytes b m
+  -- the same records come from the same centres
+  pub same-centres : {room : ℕ} → Accepted m room → allRecords a m ≡ allRecords b m
       → (n : ℕ) → n < countOf (widthOf m) (depthOf m) → centreAt a m n ≡ centreAt b m n
-  unfolding listBytes recordAt
+  unfolding allRecords recordAt
   same-centres s e n h =
       let r : recordBytes (centreAt a m n) ≡ recordBytes (centreAt b m n) =
-      joined-apart (recordAt a m) (recordAt b m) 12 (length-record a m) (length-record b m) (countOf (widthOf m) (depthOf m)) _ _ e n h in
+      joined-apart (recordAt a m) (recordAt b m) 12 (length-record a m) (length-record b m) (countOf (widthOf m) (depthOf m)) e n h in
       same-centre (centreAt a m n) (centreAt b m n)
       (λ j l.
       sym (record-entry (centreAt a m n) (centre-small m s a n h) j l)
       ∙ ap (λ (x : List ℕ). signed (wordAt x (4 * j))) r
       ∙ record-entry (centreAt b m n) (centre-small m s b n h) j l)
 
-  -- and the same centres give the same bytes
-  pub same-bytes : ((n : ℕ) → n < countOf (widthOf m) (depthOf m) → centreAt a m n ≡ centreAt b m n) → listBytes a m ≡ listBytes b m
-  unfolding listBytes recordAt
-  same-bytes e =
-      let c = countOf (widthOf m) (depthOf m) in
-      ap (λ (s : List ℕ). s ++ trailerBytes Cut1 (listFields m))
-      (joined-same (recordAt a m) (recordAt b m) c (λ n h. ap recordBytes (e n h)))
+  -- and the same centres give the same records
+  pub same-records : ((n : ℕ) → n < countOf (widthOf m) (depthOf m) → centreAt a m n ≡ centreAt b m n) → allRecords a m ≡ allRecords b m
+  unfolding allRecords recordAt
+  same-records e =
+      joined-same (recordAt a m) (recordAt b m) (countOf (widthOf m) (depthOf m)) (λ n h. ap recordBytes (e n h))
 
--- ---- a list, whatever stands behind it
+-- ---- a list with a trailer of a kind, whatever stands behind it
 
-module _ (mode : Mode) (m rest : List ℕ) (n j : ℕ) (h : n < countOf (widthOf m) (depthOf m)) (l : j < 3) where
-  -- the word at byte 4·j of record n
-  list-word : wordAt (listBytes mode m ++ rest) (12 * n + 4 * j) ≡ wordAt (recordAt mode m n) (4 * j)
-  unfolding listBytes
-  list-word =
-      let c = countOf (widthOf m) (depthOf m) in
-      let f = recordAt mode m in
-      let t = trailerBytes Cut1 (listFields m) in
-      let place : 12 * n + 4 * j ≡ n * 12 + 4 * j = omega arith in
-      ap (wordAt (joined f c ++ t ++ rest)) place
-      ∙ ap (λ (s : List ℕ). wordAt s (n * 12 + 4 * j)) (append-assoc (joined f c) t rest)
-      ∙ joined-word f 12 (length-record mode m) c n (4 * j) (t ++ rest) h (omega arith)
+module _ (k : Kind) (mode : Mode) (m rest : List ℕ) where
+  list-behind : listOf k mode m ++ rest ≡ allRecords mode m ++ (trailerBytes k (listFields k mode m) ++ rest)
+  unfolding listOf
+  list-behind = append-assoc (allRecords mode m) (trailerBytes k (listFields k mode m)) rest
 
-  -- entry j of record n
-  pub list-entry : {room : ℕ} → Accepted m room → entryAt (listBytes mode m ++ rest) n j ≡ coordinate (centreAt mode m n) j
-  unfolding recordAt
-  list-entry s = ap signed list-word ∙ record-entry (centreAt mode m n) (centre-small m s mode n h) j l
+  -- its records stand first
+  list-records : take (12 * countOf (widthOf m) (depthOf m)) (listOf k mode m ++ rest) ≡ allRecords mode m
+  list-records =
+      ap₂ take (sym (length-records mode m)) list-behind
+      ∙ take-append-seam (allRecords mode m) (trailerBytes k (listFields k mode m) ++ rest)
+
+  module _ (n j : ℕ) (h : n < countOf (widthOf m) (depthOf m)) (l : j < 3) where
+    -- the word at byte 4·j of record n
+    list-word : wordAt (listOf k mode m ++ rest) (12 * n + 4 * j) ≡ wordAt (recordAt mode m n) (4 * j)
+    unfolding allRecords
+    list-word =
+        let c = countOf (widthOf m) (depthOf m) in
+        let f = recordAt mode m in
+        let t = trailerBytes k (listFields k mode m) in
+        let place : 12 * n + 4 * j ≡ n * 12 + 4 * j = omega arith in
+        ap (wordAt (listOf k mode m ++ rest)) place
+        ∙ ap (λ (s : List ℕ). wordAt s (n * 12 + 4 * j)) list-behind
+        ∙ joined-word f 12 (length-record mode m) c n (4 * j) (t ++ rest) h (omega arith)
+
+    -- entry j of record n
+    pub list-entry : {room : ℕ} → Accepted m room → entryAt (listOf k mode m ++ rest) n j ≡ coordinate (centreAt mode m n) j
+    unfolding recordAt
+    list-entry s = ap signed list-word ∙ record-entry (centreAt mode m n) (centre-small m s mode n h) j l
+
+-- ---- the trailer of a new list
+
+-- all of it but the rounding, which stands last
+unfoldable pub trailerFront : List ℕ → List ℕ
+trailerFront m =
+    frontBytes (lettersOf newList) (listFields newList Nearest m) ++ halfBytes (radiusOf m)
+
+pub length-trailer-front : (m : List ℕ) → length (trailerFront m) ≡ 16
+unfolding trailerFront frontBytes halfBytes wordBytes
+length-trailer-front m = refl
+
+pub list-end : (mode : Mode) (m : List ℕ) → drop (12 * countOf (widthOf m) (depthOf m)) (listBytes mode m) ≡ trailerFront m ++ halfBytes (numberOf mode)
+unfolding listOf trailerBytes trailerFront frontBytes
+list-end mode m =
+    ap (λ (n : ℕ). drop n (listBytes mode m)) (sym (length-records mode m))
+    ∙ drop-append-seam (allRecords mode m) (trailerBytes newList (listFields newList mode m))
 
 -- ---- the buffer
 
@@ -94,7 +122,13 @@ module _ (rounding : ℕ) (m out : List ℕ) (e : listRefusal rounding m (length
   unfolding splice
   entry-is n j h l =
       ap (λ (s : List ℕ). entryAt s n j) (accepted-buffer rounding m out e)
-      ∙ list-entry (modeOf rounding) m (drop (0 + length (listBytes (modeOf rounding) m)) out) n j h l (accepted-of m (length out) (map-asked rounding m (length out) e))
+      ∙ list-entry newList (modeOf rounding) m (drop (0 + length (listBytes (modeOf rounding) m)) out) n j h l (accepted-of m (length out) (map-asked rounding m (length out) e))
+
+  records-are : take (12 * countOf (widthOf m) (depthOf m)) (bufferAfter rounding m out) ≡ allRecords (modeOf rounding) m
+  unfolding splice
+  records-are =
+      ap (take (12 * countOf (widthOf m) (depthOf m))) (accepted-buffer rounding m out e)
+      ∙ list-records newList (modeOf rounding) m (drop (0 + length (listBytes (modeOf rounding) m)) out)
 
   -- what an accepted call leaves
   pub list-held : ListHeld rounding m out
@@ -102,6 +136,7 @@ module _ (rounding : ℕ) (m out : List ℕ) (e : listRefusal rounding m (length
       record {
         reported = accepted-answer rounding m (length out) e;
         front = rw (accepted-buffer rounding m out e, ← length-list (modeOf rounding) m) (splice-take (listBytes (modeOf rounding) m) out);
+        records = records-are;
         behind = rw (accepted-buffer rounding m out e, ← length-list (modeOf rounding) m) (splice-drop (listBytes (modeOf rounding) m) out);
         entry = entry-is;
       }

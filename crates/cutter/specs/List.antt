@@ -1,14 +1,16 @@
 -- The list of a map: one record per inner point, row by row, then a trailer. Assumes nothing.
 use Prim.Native.Nat.{ℕ, _+_, _-_, _*_, _/_, _%_}
+use mathlib.Core.Bool.{Bool, true, false}
 use mathlib.Core.List.{List, _++_}
 use lib.IntN.{ℤ}
+use Rattle.kinds.specs.Rounding.{numberOf}
 use Rattle.kinds.specs.declared.Mode.{Mode}
 use Rattle.words.specs.Word.{wordAt}
 use Rattle.words.specs.Signed.{signed}
 use Rattle.words.specs.Joined.{joined}
-use Rattle.trailer.specs.Kinds.{lengthOf}
+use Rattle.trailer.specs.Kinds.{lengthOf, isRounded, newList}
 use Rattle.trailer.specs.Bytes.{trailerBytes}
-use Rattle.trailer.specs.declared.Kind.the-variants.{Cut1}
+use Rattle.trailer.specs.declared.Kind.{Kind}
 use Rattle.trailer.specs.declared.Fields.{Fields}
 use Rattle.cutter.specs.Map.{widthOf, depthOf, stepOf, radiusOf}
 use Rattle.cutter.specs.Centre.{Point, Centre, centreOf, pointAt, recordBytes}
@@ -36,25 +38,37 @@ centreAt mode m n = centreOf mode (stepOf m) (radiusOf m) (innerPoint m n)
 unfoldable pub recordAt : Mode → List ℕ → ℕ → List ℕ
 recordAt mode m n = recordBytes (centreAt mode m n)
 
--- the fields of the trailer: the distance back to the first record, and the map's w, d, step and radius
-abbrev pub listFields : List ℕ → Fields
-listFields m =
+-- the records of all inner points
+unfoldable pub allRecords : Mode → List ℕ → List ℕ
+allRecords mode m = joined (recordAt mode m) (countOf (widthOf m) (depthOf m))
+
+-- the rounding that a trailer states: the number of the list's, or 0 in a kind that has none
+abbrev pub statedRounding : Bool → Mode → ℕ
+statedRounding true mode = numberOf mode
+statedRounding false mode = 0
+
+-- the fields of the trailer: the distance back to the first record, the map's w, d, step and radius, and the rounding
+abbrev pub listFields : Kind → Mode → List ℕ → Fields
+listFields k mode m =
     record {
       distance = 12 * countOf (widthOf m) (depthOf m);
       width = widthOf m;
       depth = depthOf m;
       step = stepOf m;
       radius = radiusOf m;
-      rounding = 0;
+      rounding = statedRounding (isRounded k) mode;
     }
 
--- how long the list of a map is
-unfoldable pub listLength : List ℕ → ℕ
-listLength m = 12 * countOf (widthOf m) (depthOf m) + lengthOf Cut1
+-- the list of a map with a trailer of a kind behind its records
+unfoldable pub listOf : Kind → Mode → List ℕ → List ℕ
+listOf k mode m = allRecords mode m ++ trailerBytes k (listFields k mode m)
 
--- the complete list: its records, and a trailer of the kind CUT1
-unfoldable pub listBytes : Mode → List ℕ → List ℕ
-listBytes mode m = joined (recordAt mode m) (countOf (widthOf m) (depthOf m)) ++ trailerBytes Cut1 (listFields m)
+-- the complete list, as the call writes it, and how long it is
+abbrev pub listBytes : Mode → List ℕ → List ℕ
+listBytes mode m = listOf newList mode m
+
+unfoldable pub listLength : List ℕ → ℕ
+listLength m = 12 * countOf (widthOf m) (depthOf m) + lengthOf newList
 
 -- the x, y or z (j is 0, 1 or 2) of record n in the bytes of a list, as a signed number
 abbrev pub entryAt : List ℕ → ℕ → ℕ → ℤ

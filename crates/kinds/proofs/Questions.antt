@@ -7,8 +7,9 @@ use lib.Dec.{T}
 use borrow.Author.Tests.{ne-eqb}
 use Rattle.kinds.specs.declared.Op.the-variants.{Reciprocal, Root, InverseRoot}
 use Rattle.kinds.specs.Operation.{opOf}
+use Rattle.kinds.specs.declared.Mode.{Mode}
 use Rattle.kinds.specs.declared.Mode.the-variants.{Nearest, Up, Down, TowardZero}
-use Rattle.kinds.specs.Rounding.{modeOf}
+use Rattle.kinds.specs.Rounding.{modeOf, numberOf}
 use Rattle.kinds.specs.Question.{ask, thenAsk}
 
 -- a number that is not the question's own came from a later one, and the question was answered yes
@@ -98,3 +99,19 @@ mode-third n e = rw e
 
 pub mode-last : (n : ℕ) → (n ≡ 0 → ⊥) → (n ≡ 1 → ⊥) → (n ≡ 2 → ⊥) → TowardZero ≡ modeOf n
 mode-last n a b c = rw (ne-eqb n 0 a, ne-eqb n 1 b, ne-eqb n 2 c)
+
+-- ---- the number of a case
+
+pub number-most : (mode : Mode) → numberOf mode ≤ 3
+number-most Nearest = omega arith
+number-most Up = omega arith
+number-most Down = omega arith
+number-most TowardZero = omega arith
+
+-- a rounding's number is that of its case
+pub number-back : (n : ℕ) → n ≤ 3 → numberOf (modeOf n) ≡ n
+number-back zero h = refl
+number-back (suc zero) h = refl
+number-back (suc (suc zero)) h = refl
+number-back (suc (suc (suc zero))) h = refl
+number-back (suc (suc (suc (suc n)))) h = absurd (omega arith)

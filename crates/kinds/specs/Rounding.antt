@@ -14,6 +14,13 @@ isRounding n = leb n 3
 abbrev pub modeOf : ℕ → Mode
 modeOf n = cond (eqb n 0) Nearest (cond (eqb n 1) Up (cond (eqb n 2) Down TowardZero))
 
+-- the number of each
+abbrev pub numberOf : Mode → ℕ
+numberOf Nearest = 0
+numberOf Up = 1
+numberOf Down = 2
+numberOf TowardZero = 3
+
 -- where an exact magnitude lies between two neighbours: at the lower, or below, at or above the midpoint
 pub data Place : Type 0 where
   exact below half above : Place

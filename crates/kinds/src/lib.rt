@@ -1,7 +1,7 @@
 // The operations and the roundings by their cases, the flags by their bits, questions, and the choice between two neighbours.
 ghost use mathlib.Core.Path.{_≡_};
 ghost use Rattle.kinds.specs.Operation.{isOperation, opOf, isReciprocal};
-ghost use Rattle.kinds.specs.Rounding.{isRounding, modeOf, away};
+ghost use Rattle.kinds.specs.Rounding.{isRounding, modeOf, numberOf, away};
 ghost use Rattle.kinds.specs.Question.{ask as Question·ask};
 ghost use Rattle.kinds.specs.Guard.{placeOf};
 
@@ -65,6 +65,18 @@ impl Mode {
             1 => Mode::Up,
             2 => Mode::Down,
             _ => Mode::TowardZero,
+        }
+    }
+
+    // The number of a rounding.
+    pub fn number(self) -> u8
+        ensures { λ r. ⌜ r ≡ numberOf self ⌝ }
+    {
+        match self {
+            Mode::Nearest => 0,
+            Mode::Up => 1,
+            Mode::Down => 2,
+            Mode::TowardZero => 3,
         }
     }
 }

@@ -20,9 +20,9 @@ fn run_frame() -> bool {
     if io::read_full(STDIN_FILENO, &mut head) < 8 {
         return false;
     }
-    // One byte more than the longest map, and the longest list.
+    // One byte more than the longest map, and than the longest list.
     let mut map = [0u8; 16401];
-    let mut out = [0u8; 46144];
+    let mut out = [0u8; 46147];
     run_map(
         &mut map,
         word_at(&head, 0) as usize,

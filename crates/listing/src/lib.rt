@@ -41,10 +41,10 @@ pub fn put_list(mode: Mode, map: &[u8], out: &mut [u8]) -> usize
         depth: trailer.depth,
         step: trailer.step,
         radius: trailer.radius,
-        rounding: 0,
+        rounding: mode.number() as u64,
     };
-    put(out, end, Kind::Cut1, fields);
-    end + length_of(Kind::Cut1)
+    put(out, end, Kind::Cut2, fields);
+    end + length_of(Kind::Cut2)
 }
 
 // The records of all inner points, row by row, from the front on.

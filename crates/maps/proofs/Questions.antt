@@ -15,8 +15,8 @@ use Rattle.kinds.proofs.Questions.{ask-yes, ask-no, then-first, then-next}
 use Rattle.words.specs.Word.{wordAt}
 use Rattle.words.specs.Signed.{signed}
 use Rattle.words.proofs.Differences.{signed-within}
-use Rattle.trailer.specs.Kinds.{lengthOf}
-use Rattle.trailer.specs.declared.Kind.the-variants.{Plt1, Cut1}
+use Rattle.trailer.specs.Kinds.{lengthOf, newList}
+use Rattle.trailer.specs.declared.Kind.the-variants.{Plt1}
 use Rattle.trailer.specs.declared.Fields.{Fields}
 use Rattle.cutter.specs.Limits.{heightMost}
 use Rattle.cutter.specs.Map.{trailerOf}
@@ -78,7 +78,7 @@ module _ (m : List ℕ) (t : Fields) (room : ℕ) (e : t ≡ trailerOf m) (r : B
     unfolding heightsRefusal
     ten o = ask-yes _ 9 _ 10 (long-is true (not-false r n)) (ask-no _ 10 _ (within-is false (not-true s o)))
 
-    module _ (o : not s ≡ false) (x y : ℕ) (p : x ≡ 12 * countOf (t .width) (t .depth)) (q : y ≡ lengthOf Cut1) where
+    module _ (o : not s ≡ false) (x y : ℕ) (p : x ≡ 12 * countOf (t .width) (t .depth)) (q : y ≡ lengthOf newList) where
       sum-is : x + y ≡ listLength m
       unfolding listLength
       sum-is = cc

@@ -46,7 +46,7 @@ fn heights_refusal(map: &[u8], trailer: Fields, room: usize) -> u8
     if !heights_hold(map, count) {
         return 10;
     }
-    if room < records_length(trailer.width, trailer.depth) + length_of(Kind::Cut1) {
+    if room < records_length(trailer.width, trailer.depth) + length_of(Kind::Cut2) {
         return 11;
     }
     0

@@ -1,14 +1,14 @@
 // The calls for C. Most give one number, whose bits 0 to 31 are the answer, bits 32 to 39 the status, and the bits from 40 on the number
-// of the refusal; the record call gives its reply as it is.
+// of the refusal; the record call gives a struct.
 ghost use mathlib.Core.Path.{_≡_};
 ghost use lib.ListN.{length};
 ghost use Rattle.significand.specs.Call.{rawRefusal, rawAnswer};
 ghost use Rattle.ieee.specs.Call.{binary32Refusal, binary32Bits, binary32Status};
 ghost use Rattle.cutter.specs.Call.{listRefusal, listAnswer, bufferAfter};
 ghost use Rattle.plate.specs.Packed.{packed};
-ghost use Rattle.plate.specs.Record.{recordCall};
+ghost use Rattle.plate.specs.Record.{recordCall, roundingNumber, recordForC};
+use crate::ListRounding;
 use crate::Operation;
-use crate::RecordReply;
 use crate::Rounding;
 use crate::Status;
 use crate::binary32;
@@ -49,12 +49,48 @@ pub extern "C" fn plate_list(rounding: u8, map: &[u8], buffer: &mut [u8]) -> u64
     pack(r.refusal, 0, r.length as u32)
 }
 
+// The record call's reply for C, which has no enums: the rounding by its number, and 255, which no call takes for a rounding, where it is
+// unknown.
+#[repr(C)]
+pub struct CRecordReply {
+    pub refusal: u8,
+    pub rounding: u8,
+    pub width: u32,
+    pub depth: u32,
+    pub step: u32,
+    pub radius: u32,
+    pub x: i32,
+    pub y: i32,
+    pub z: i32,
+}
+
 // The record call.
 #[no_mangle]
-pub extern "C" fn plate_record(list: &[u8], index: usize) -> RecordReply
-    ensures { λ r. ⌜ r ≡ recordCall (now (list .entry)) index ⌝ }
+pub extern "C" fn plate_record(list: &[u8], index: usize) -> CRecordReply
+    ensures { λ r. ⌜ r ≡ recordForC (recordCall (now (list .entry)) index) ⌝ }
 {
-    record(list, index)
+    let r = record(list, index);
+    let rounding = r.rounding;
+    CRecordReply {
+        refusal: r.refusal,
+        rounding: rounding_number(rounding),
+        width: r.width,
+        depth: r.depth,
+        step: r.step,
+        radius: r.radius,
+        x: r.x,
+        y: r.y,
+        z: r.z,
+    }
+}
+
+fn rounding_number(rounding: ListRounding) -> u8
+    ensures { λ r. ⌜ r ≡ roundingNumber rounding ⌝ }
+{
+    match rounding {
+        ListRounding::Unknown => 255,
+        ListRounding::Known(known) => known.0,
+    }
 }
 
 // The three numbers of a reply as one.

@@ -4,16 +4,22 @@
 mod c;
 
 ghost use mathlib.Core.Path.{_≡_};
+ghost use Prim.Native.Nat.{_≤_};
+ghost use Rattle.trailer.specs.Kinds.{isRounded};
+ghost use Rattle.reader.specs.Reader.{recordRefusal};
 ghost use Rattle.plate.specs.Status.{raised, cleared};
 ghost use Rattle.plate.specs.Raw.{rawCall};
 ghost use Rattle.plate.specs.Binary32.{binary32Call};
 ghost use Rattle.plate.specs.List.{ListCall};
-ghost use Rattle.plate.specs.Record.{recordCall};
+ghost use Rattle.plate.specs.Record.{listRounding, refusedRecord, recordRead, recordCall};
 use kinds::Flags;
 use kinds::Mode;
 use kinds::Op;
 use reader::entry;
 use trailer::Kind;
+use trailer::layout_of;
+use trailer::list_kind;
+use trailer::read_last;
 
 // An operation by its number.
 pub struct Operation(pub u8);
@@ -154,11 +160,18 @@ pub fn list(rounding: Rounding, map: &[u8], buffer: &mut [u8]) -> ListReply
     ListReply { refusal, length }
 }
 
-// What the record call gives back: refusal 0 with the sizes of the list's trailer, columns and rows first, and the record's coordinates,
-// in micrometres like step and radius; or the number of a question, with 0 in every other place.
-#[repr(C)]
+// Which rounding made a list: unknown where its trailer has none, as in lists of document 01.
+pub enum ListRounding {
+    Unknown,
+    Known(Rounding),
+}
+
+// What the record call gives back: refusal 0 with the rounding that made the list, the sizes of its trailer, columns and rows first, and
+// the record's coordinates, in micrometres like step and radius; or the number of a question, the rounding unknown, and 0 in every other
+// place.
 pub struct RecordReply {
     pub refusal: u8,
+    pub rounding: ListRounding,
     pub width: u32,
     pub depth: u32,
     pub step: u32,
@@ -168,27 +181,27 @@ pub struct RecordReply {
     pub z: i32,
 }
 
-// The record call: the sizes of a list, and its record at an index, counted from 0, row by row. The bytes are the list's and no more: as
-// many as the list call reported.
+// The record call: a list's rounding and sizes, and its record at an index, counted from 0, row by row. The bytes are the list's and no
+// more: as many as the list call reported.
 pub fn record(list: &[u8], index: usize) -> RecordReply
     ensures { λ r. ⌜ r ≡ recordCall (now (list .entry)) index ⌝ }
 {
     let refusal = reader::record_refusal(list, index);
     if refusal != 0 {
-        return RecordReply {
-            refusal,
-            width: 0,
-            depth: 0,
-            step: 0,
-            radius: 0,
-            x: 0,
-            y: 0,
-            z: 0,
-        };
+        return refused_record(refusal);
     }
-    let trailer = trailer::read_last(list, Kind::Cut1);
+    read_record(list, index)
+}
+
+fn read_record(list: &[u8], index: usize) -> RecordReply
+    requires { ⌜ recordRefusal (now list) index ≡ 0 ⌝ }
+    ensures { λ r. ⌜ r ≡ recordRead (now (list .entry)) index ⌝ }
+{
+    let kind = list_kind(list);
+    let trailer = read_last(list, kind);
     RecordReply {
-        refusal,
+        refusal: 0,
+        rounding: list_rounding(kind, trailer.rounding),
         width: trailer.width as u32,
         depth: trailer.depth as u32,
         step: trailer.step as u32,
@@ -197,4 +210,32 @@ pub fn record(list: &[u8], index: usize) -> RecordReply
         y: entry(list, index, 1),
         z: entry(list, index, 2),
     }
+}
+
+fn refused_record(refusal: u8) -> RecordReply
+    ensures { λ r. ⌜ r ≡ refusedRecord refusal ⌝ }
+{
+    RecordReply {
+        refusal,
+        rounding: ListRounding::Unknown,
+        width: 0,
+        depth: 0,
+        step: 0,
+        radius: 0,
+        x: 0,
+        y: 0,
+        z: 0,
+    }
+}
+
+// The rounding that a trailer of a kind states.
+fn list_rounding(kind: Kind, number: u64) -> ListRounding
+    requires { ⌜ number ≤ 3 ⌝ }
+    ensures { λ r. ⌜ r ≡ listRounding (isRounded kind) number ⌝ }
+{
+    let layout = layout_of(kind);
+    if !layout.rounded {
+        return ListRounding::Unknown;
+    }
+    ListRounding::Known(Rounding(number as u8))
 }

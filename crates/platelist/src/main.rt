@@ -43,8 +43,8 @@ fn read_input(bytes: &mut [u8]) -> Input
 
 // Writes the text for these bytes at once.
 fn print(map: &[u8]) {
-    // The longest list, 12 × 62 × 62 + 16.
-    let mut list = [0u8; 46144];
+    // The longest list, 12 × 62 × 62 + 18.
+    let mut list = [0u8; 46146];
     let mut text = [0u8; 230688];
     let end = put_text(map, &mut list, &mut text);
     if !io::write_all(STDOUT_FILENO, &text[..end]) {

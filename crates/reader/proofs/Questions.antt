@@ -1,6 +1,6 @@
 -- What each return of the code says of the reader's questions, and what a list that passed them holds. Assumes nothing.
 use mathlib.Core.Path.{_≡_, refl, sym, ap, _∙_}
-use mathlib.Core.Bool.{Bool, true, false}
+use mathlib.Core.Bool.{Bool, true, false, not}
 use mathlib.Core.List.{List}
 use Prim.Native.Nat.{ℕ, _+_, _*_, _≤_, _<_}
 use native.Mathlib.Omega.{arith}
@@ -9,14 +9,16 @@ use lib.ListN.{length}
 use lib.IntN.{ℤ}
 use mir.Syntax.{w32}
 use mir.Val.{toZ, ofZ}
-use borrow.Author.Tests.{lt-ltb, le-ltb, ltb-true}
+use borrow.Author.Tests.{not-true, not-false, le-leb, lt-leb, leb-true, lt-ltb, le-ltb, ltb-true}
 use Rattle.kinds.specs.Question.{ask}
+use Rattle.kinds.specs.Rounding.{isRounding}
 use Rattle.kinds.proofs.Questions.{yes, sure, ask-yes, ask-no, then-first, then-next, then-none}
 use Rattle.words.specs.Word.{wordAt}
 use Rattle.words.specs.Signed.{signed}
 use Rattle.words.proofs.Bits.{signed-back}
 use Rattle.trailer.specs.Kinds.{lengthOf}
-use Rattle.trailer.specs.declared.Kind.the-variants.{Cut1}
+use Rattle.trailer.specs.Bytes.{lastFields, listKind}
+use Rattle.trailer.specs.declared.Kind.{Kind}
 use Rattle.trailer.specs.declared.Fields.{Fields}
 use Rattle.cutter.specs.List.{countOf, entryAt}
 use Rattle.cutter.specs.Sizes.{trailerRefusal, isWhole}
@@ -27,32 +29,55 @@ use Rattle.reader.specs.Sound.{Sound}
 
 -- ---- the questions about the bytes
 
-module _ (b : List ℕ) (n : ℕ) (e : n ≡ trailerRefusal Cut1 12 b) where
+module _ (b : List ℕ) (k : Kind) (n : ℕ) (i : k ≡ listKind b) (e : n ≡ trailerRefusal k 12 b) where
+  asked-is : n ≡ trailerRefusal (listKind b) 12 b
+  asked-is = e ∙ ap (λ (k : Kind). trailerRefusal k 12 b) i
+
   -- a number that the trailer gets is the list's
   pub asked : (n ≡ 0 → ⊥) → n ≡ readerRefusal b
   unfolding readerRefusal
-  asked h = then-first (trailerRefusal Cut1 12 b) _ n e h
+  asked h = then-first (trailerRefusal (listKind b) 12 b) _ n asked-is h
 
-  -- where it gets none, the length decides
-  module _ (z : n ≡ 0) (t : Fields) (f : t ≡ listTrailer b) (before : ℕ) (p : before ≡ 12 * countOf (t .width) (t .depth)) (r : Bool) (g : r ≡ isWhole Cut1 before (t .distance) (length b)) where
-    whole-is : (v : Bool) → r ≡ v → isWhole Cut1 (12 * recordsOf b) (listTrailer b .distance) (length b) ≡ v
-    whole-is v i = cc
+  -- where it gets none, the length decides, and then the rounding
+  module _ (z : n ≡ 0) (t : Fields) (f : t ≡ lastFields k b) (before : ℕ) (p : before ≡ 12 * countOf (t .width) (t .depth)) (r : Bool) (g : r ≡ isWhole k before (t .distance) (length b)) where
+    read-is : t ≡ listTrailer b
+    read-is = f ∙ ap (λ (k : Kind). lastFields k b) i
 
-    pub none : r ≡ true → 0 ≡ readerRefusal b
+    whole-is : (v : Bool) → r ≡ v → isWhole (listKind b) (12 * recordsOf b) (listTrailer b .distance) (length b) ≡ v
+    whole-is v o = cc read-is
+
+    pub thirteen : not r ≡ true → 13 ≡ readerRefusal b
     unfolding readerRefusal
-    none o = then-next (trailerRefusal Cut1 12 b) _ 0 (sym e ∙ z) (ask-yes _ 13 _ 0 (whole-is true o) refl)
+    thirteen o = then-next (trailerRefusal (listKind b) 12 b) _ 13 (sym asked-is ∙ z) (ask-no _ 13 _ (whole-is false (not-true r o)))
 
-    pub thirteen : r ≡ false → 13 ≡ readerRefusal b
-    unfolding readerRefusal
-    thirteen o = then-next (trailerRefusal Cut1 12 b) _ 13 (sym e ∙ z) (ask-no _ 13 _ (whole-is false o))
+    module _ (o : not r ≡ false) where
+      pub none : t .rounding ≤ 3 → 0 ≡ readerRefusal b
+      unfolding readerRefusal
+      none h =
+          then-next (trailerRefusal (listKind b) 12 b) _ 0 (sym asked-is ∙ z)
+          (ask-yes _ 13 _ 0 (whole-is true (not-false r o)) (ask-yes _ 2 0 0 (le-leb (listTrailer b .rounding) 3 (rw read-is at h)) refl))
+
+      pub two : 3 < t .rounding → 2 ≡ readerRefusal b
+      unfolding readerRefusal
+      two h =
+          then-next (trailerRefusal (listKind b) 12 b) _ 2 (sym asked-is ∙ z)
+          (ask-yes _ 13 _ 2 (whole-is true (not-false r o)) (ask-no _ 2 0 (lt-leb (listTrailer b .rounding) 3 (rw read-is at h))))
 
 -- what they tell
 pub sound-of : (b : List ℕ) → readerRefusal b ≡ 0 → Sound b
 unfolding readerRefusal
 sound-of b e =
-    let both = then-none (trailerRefusal Cut1 12 b) (ask (isWhole Cut1 (12 * recordsOf b) (listTrailer b .distance) (length b)) 13 0) e in
-    let a13 = yes (isWhole Cut1 (12 * recordsOf b) (listTrailer b .distance) (length b)) 12 0 (both .1) in
-    record { trailed = trailed-of Cut1 12 b (lit< tt) (both .0); long = whole-long Cut1 (12 * recordsOf b) (listTrailer b .distance) (length b) (sure _ (a13 .0)) }
+    let k : Kind = listKind b in
+    let whole : Bool = isWhole k (12 * recordsOf b) (listTrailer b .distance) (length b) in
+    let known : Bool = isRounding (listTrailer b .rounding) in
+    let both = then-none (trailerRefusal k 12 b) (ask whole 13 (ask known 2 0)) e in
+    let a13 = yes whole 12 (ask known 2 0) (both .1) in
+    let a2 = yes known 1 0 (a13 .1) in
+    record {
+      trailed = trailed-of k 12 b (lit< tt) (both .0);
+      long = whole-long k (12 * recordsOf b) (listTrailer b .distance) (length b) (sure _ (a13 .0));
+      rounding = leb-true (listTrailer b .rounding) 3 (sure _ (a2 .0));
+    }
 
 -- ---- the index
 
@@ -61,17 +86,20 @@ module _ (b : List ℕ) (index n : ℕ) (e : n ≡ readerRefusal b) where
   unfolding recordRefusal
   list-asked h = then-first (readerRefusal b) _ n e h
 
-  module _ (z : n ≡ 0) where
-    pub list-fits : lengthOf Cut1 ≤ length b
-    list-fits = sound-of b (sym e ∙ z) .trailed .fits
+  module _ (z : n ≡ 0) (k : Kind) (i : k ≡ listKind b) where
+    pub list-fits : lengthOf k ≤ length b
+    list-fits = rw i (sound-of b (sym e ∙ z) .trailed .fits)
 
-    module _ (t : Fields) (f : t ≡ listTrailer b) where
+    module _ (t : Fields) (f : t ≡ lastFields k b) where
+      told : t ≡ listTrailer b
+      told = f ∙ ap (λ (k : Kind). lastFields k b) i
+
       pub list-sizes : Sizes (t .width) (t .depth)
-      list-sizes = rw f (sound-of b (sym e ∙ z) .trailed .sizes)
+      list-sizes = rw told (sound-of b (sym e ∙ z) .trailed .sizes)
 
       module _ (count : ℕ) (p : count ≡ countOf (t .width) (t .depth)) where
         count-is : count ≡ recordsOf b
-        count-is = cc
+        count-is = cc told
 
         pub below : index < count → 0 ≡ recordRefusal b index
         unfolding recordRefusal

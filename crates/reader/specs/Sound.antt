@@ -1,14 +1,15 @@
 -- What is known of a list once its questions are answered "yes". Assumes nothing.
-use Prim.Native.Nat.{_+_, _*_, ℕ}
+use Prim.Native.Nat.{_+_, _*_, _≤_, ℕ}
 use mathlib.Core.Path.{_≡_}
 use mathlib.Core.List.{List}
 use lib.ListN.{length}
 use Rattle.trailer.specs.Kinds.{lengthOf}
-use Rattle.trailer.specs.declared.Kind.the-variants.{Cut1}
+use Rattle.trailer.specs.Bytes.{listKind}
 use Rattle.cutter.specs.Accepted.{Trailed}
-use Rattle.reader.specs.Reader.{recordsOf}
+use Rattle.reader.specs.Reader.{listTrailer, recordsOf}
 
--- its trailer is in order, and stands behind twelve bytes a record
+-- its trailer is in order, stands behind twelve bytes a record, and states a rounding that there is
 pub record Sound (b : List ℕ) : Type 0 where
-  pub trailed : Trailed Cut1 b
-  pub long : length b ≡ 12 * recordsOf b + lengthOf Cut1
+  pub trailed : Trailed (listKind b) b
+  pub long : length b ≡ 12 * recordsOf b + lengthOf (listKind b)
+  pub rounding : listTrailer b .rounding ≤ 3

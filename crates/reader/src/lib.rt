@@ -7,7 +7,7 @@ ghost use Rattle.reader.specs.Reader.{readerRefusal, recordRefusal};
 use sizes::count;
 use sizes::is_whole;
 use sizes::records_length;
-use trailer::Kind;
+use trailer::list_kind;
 use trailer::read_last;
 use words::i32_of;
 use words::word_at;
@@ -16,14 +16,17 @@ use words::word_at;
 pub fn refusal(list: &[u8]) -> u8
     ensures { λ r. ⌜ r ≡ readerRefusal (now (list .entry)) ⌝ }
 {
-    let asked = sizes::refusal(list, Kind::Cut1, 12);
+    let kind = list_kind(list);
+    let asked = sizes::refusal(list, kind, 12);
     if asked != 0 {
         return asked;
     }
-    let trailer = read_last(list, Kind::Cut1);
+    let trailer = read_last(list, kind);
     let before = records_length(trailer.width, trailer.depth);
-    let whole = is_whole(Kind::Cut1, before, trailer.distance, list.len());
-    if whole { 0 } else { 13 }
+    if !is_whole(kind, before, trailer.distance, list.len()) {
+        return 13;
+    }
+    if trailer.rounding <= 3 { 0 } else { 2 }
 }
 
 // The same where the record at an index is asked for.
@@ -34,7 +37,7 @@ pub fn record_refusal(list: &[u8], index: usize) -> u8
     if refusal != 0 {
         return refusal;
     }
-    let trailer = read_last(list, Kind::Cut1);
+    let trailer = read_last(list, list_kind(list));
     let records = count(trailer.width, trailer.depth);
     if index < records { 0 } else { 14 }
 }

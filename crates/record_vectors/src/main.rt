@@ -1,7 +1,9 @@
-// Runs the record call on frames from standard input, and writes a line for each call: refusal, w, d, step, radius, x, y, z.
+// Runs the record call on frames from standard input, and writes a line for each call: refusal, rounding, w, d, step, radius, x, y, z; an
+// unknown rounding is a dash.
 // A frame is the list's length and the number of indexes, 4 bytes each, the list, and the indexes, 8 bytes each; all little-endian.
 use libc::STDIN_FILENO;
 use libc::STDOUT_FILENO;
+use plate::ListRounding;
 use plate::record;
 use words::parts_of;
 use words::word_at;
@@ -20,7 +22,7 @@ fn run_frame() -> bool {
         return false;
     }
     // One byte more than the longest list.
-    let mut list = [0u8; 46145];
+    let mut list = [0u8; 46147];
     run_list(&mut list, word_at(&head, 0) as usize, word_at(&head, 4))
 }
 
@@ -50,6 +52,8 @@ fn read_index() -> usize {
 fn run(list: &[u8], index: usize) {
     let reply = record(list, index);
     number(reply.refusal as u64, b" ");
+    let rounding = reply.rounding;
+    told(rounding);
     number(reply.width as u64, b" ");
     number(reply.depth as u64, b" ");
     number(reply.step as u64, b" ");
@@ -57,6 +61,15 @@ fn run(list: &[u8], index: usize) {
     signed(reply.x, b" ");
     signed(reply.y, b" ");
     signed(reply.z, b"\n");
+}
+
+fn told(rounding: ListRounding) {
+    match rounding {
+        ListRounding::Unknown => {
+            io::write_all(STDOUT_FILENO, b"- ");
+        }
+        ListRounding::Known(known) => number(known.0 as u64, b" "),
+    }
 }
 
 fn number(x: u64, then: &[u8]) {

@@ -24,8 +24,8 @@ use trailer::read_last;
 use words::put_four;
 
 // Puts the text for these bytes at the front of `out`; its length. The list is made in `list`, which holds the longest one,
-// 12 × 62 × 62 + 16 bytes; `out` holds a line of 48 bytes and 62 × 62 lines of 60, more than any text has.
-pub fn put_text(map: &[u8], list: &mut [u8; 46144], out: &mut [u8; 230688]) -> usize
+// 12 × 62 × 62 + 18 bytes; `out` holds a line of 48 bytes and 62 × 62 lines of 60, more than any text has.
+pub fn put_text(map: &[u8], list: &mut [u8; 46146], out: &mut [u8; 230688]) -> usize
     ensures { λ r. ⌜ TextCall (now (map .entry)) (now (list .entry)) (now (out .entry)) r (now (list .exit)) (now (out .exit)) ⌝ }
 {
     put_answer(map, list, out)

@@ -46,4 +46,4 @@ list-calls-bracket m a b lowest uppermost lower upper c d r s =
     let rb : listRefusal 1 m (length b) ≡ 0 = sym (ap (λ (x : ListReply). x .refusal) (d .answers)) ∙ s in
     let k = list-bracket m a b ra rb in
     rw (c .answers, d .answers, c .leaves, d .leaves, list-held 2 m a ra .reported, list-held 1 m b rb .reported)
-    (record { equal = k .equal; next = k .next })
+    (record { equal = k .equal; next = k .next; ends = k .ends })

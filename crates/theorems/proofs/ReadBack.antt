@@ -1,43 +1,89 @@
--- REQUEST #101, of two calls: whatever the list call wrote, in any rounding, of any map and into any buffer, the record call reads back.
--- Assumes nothing.
-use mathlib.Core.Path.{_≡_, refl, sym, ap, _∙_}
-use mathlib.Core.List.{List}
+-- REQUESTS #101 AND #102, of two calls: whatever the list call wrote, in any rounding, of any map and into any buffer, the record call reads
+-- back with its rounding; document 01's list of the same map too, its rounding unknown. Assumes nothing.
+use mathlib.Core.Path.{_≡_, refl, sym, ap, subst, _∙_}
+use mathlib.Core.Bool.{false}
+use mathlib.Core.List.{List, _++_}
 use Prim.Native.Nat.{ℕ, _≤_, _<_}
 use native.Mathlib.Omega.{arith}
 use lib.ListN.{length, take}
-use Rattle.kinds.specs.Rounding.{modeOf}
+use Rattle.kinds.specs.Rounding.{modeOf, numberOf}
+use Rattle.kinds.proofs.Questions.{number-back}
+use Rattle.trailer.specs.Kinds.{isRounded}
+use Rattle.trailer.specs.Bytes.{endsIn, listKind, trailerBytes}
+use Rattle.trailer.specs.declared.Kind.{Kind}
+use Rattle.trailer.specs.declared.Kind.the-variants.{Cut1, Cut2}
+use Rattle.trailer.specs.declared.Fields.{Fields}
+use Rattle.trailer.proofs.Seeking.{cut1-found, cut2-found, cut2-not-cut1}
 use Rattle.cutter.specs.Map.{widthOf, depthOf}
-use Rattle.cutter.specs.List.{countOf, listBytes}
+use Rattle.cutter.specs.List.{countOf, allRecords, statedRounding, listFields, listOf, listBytes}
 use Rattle.cutter.specs.Call.{listRefusal}
 use Rattle.cutter.specs.Accepted.{Accepted}
-use Rattle.cutter.proofs.Accepted.{accepted-of, map-asked}
+use Rattle.cutter.proofs.Accepted.{accepted-of, map-asked, rounding-asked}
+use Rattle.cutter.proofs.Lengths.{list-parts}
 use Rattle.cutter.proofs.Entries.{list-held}
-use Rattle.reader.proofs.Written.{written-trailer, written-below, written-beyond, written-entry}
+use Rattle.reader.proofs.Written.{written-kind, written-trailer, written-below, written-beyond, written-entry}
 use Rattle.plate.specs.declared.ListReply.{ListReply}
+use Rattle.plate.specs.declared.ListRounding.{ListRounding}
+use Rattle.plate.specs.declared.ListRounding.the-variants.{Unknown, Known}
 use Rattle.plate.specs.List.{ListCall}
-use Rattle.plate.specs.Record.{refusedRecord, recordCall}
+use Rattle.plate.specs.Record.{listRounding, refusedRecord, recordCall}
 use Rattle.theorems.specs.ReadBack.{centreRead, ReadBack}
 
--- the bytes of the length reported are the list
-written : (rounding : ℕ) (m before after : List ℕ) (reply : ListReply) → ListCall rounding m before reply after
-    → listRefusal rounding m (length before) ≡ 0 → take (reply .length) after ≡ listBytes (modeOf rounding) m
-written rounding m before after reply c e =
-    rw (c .answers, c .leaves, list-held rounding m before e .reported) (list-held rounding m before e .front)
+-- ---- a list with a trailer of a kind that is found
 
-module _ (rounding : ℕ) (m : List ℕ) {room : ℕ} (a : Accepted m room) where
-  read-each : (n : ℕ) → n < countOf (widthOf m) (depthOf m) → recordCall (listBytes (modeOf rounding) m) n ≡ centreRead rounding m n
+module _ (k : Kind) (found : (l : List ℕ) (f : Fields) → listKind (l ++ trailerBytes k f) ≡ k) (rounding : ℕ) (m : List ℕ) {room : ℕ} (a : Accepted m room) where
+  -- what its trailer tells of the rounding
+  abbrev told : ListRounding
+  told = listRounding (isRounded k) (statedRounding (isRounded k) (modeOf rounding))
+
+  abbrev list : List ℕ
+  list = listOf k (modeOf rounding) m
+
+  read-each : (n : ℕ) → n < countOf (widthOf m) (depthOf m) → recordCall list n ≡ centreRead told rounding m n
   unfolding recordCall
   read-each n h =
       let mode = modeOf rounding in
-      rw (written-below mode m a n h, written-trailer mode m a, written-entry mode m a n 0 h (omega arith), written-entry mode m a n 1 h (omega arith), written-entry mode m a n 2 h (omega arith)) refl
+      rw (
+        written-below k found mode m a n h,
+        written-trailer k found mode m a,
+        written-kind k found mode m a,
+        written-entry k found mode m a n 0 h (omega arith),
+        written-entry k found mode m a n 1 h (omega arith),
+        written-entry k found mode m a n 2 h (omega arith),
+      ) refl
 
-  read-beyond : (n : ℕ) → countOf (widthOf m) (depthOf m) ≤ n → recordCall (listBytes (modeOf rounding) m) n ≡ refusedRecord 14
+  read-beyond : (n : ℕ) → countOf (widthOf m) (depthOf m) ≤ n → recordCall list n ≡ refusedRecord 14
   unfolding recordCall
-  read-beyond n h = rw (written-beyond (modeOf rounding) m a n h) refl
+  read-beyond n h = rw (written-beyond k found (modeOf rounding) m a n h) refl
 
-pub read-back : (rounding : ℕ) (m before after : List ℕ) (reply : ListReply) → ListCall rounding m before reply after → reply .refusal ≡ 0
-    → ReadBack rounding m (take (reply .length) after)
-read-back rounding m before after reply c z =
-    let e : listRefusal rounding m (length before) ≡ 0 = sym (ap (λ (x : ListReply). x .refusal) (c .answers)) ∙ z in
-    let a : Accepted m (length before) = accepted-of m (length before) (map-asked rounding m (length before) e) in
-    rw (written rounding m before after reply c e) (record { each = read-each rounding m a; beyond = read-beyond rounding m a })
+  read-all : ReadBack told rounding m list
+  read-all = record { each = read-each; beyond = read-beyond }
+
+-- ---- what the list call wrote
+
+module _ (rounding : ℕ) (m before after : List ℕ) (reply : ListReply) (c : ListCall rounding m before reply after) (z : reply .refusal ≡ 0) where
+  asked : listRefusal rounding m (length before) ≡ 0
+  asked = sym (ap (λ (x : ListReply). x .refusal) (c .answers)) ∙ z
+
+  -- the bytes of the length reported are the list
+  written : take (reply .length) after ≡ listBytes (modeOf rounding) m
+  written = rw (c .answers, c .leaves, list-held rounding m before asked .reported) (list-held rounding m before asked .front)
+
+  -- it is read back with its rounding
+  pub read-back : ReadBack (Known (record { 0 = rounding })) rounding m (take (reply .length) after)
+  read-back =
+      let a : Accepted m (length before) = accepted-of m (length before) (map-asked rounding m (length before) asked) in
+      let known : numberOf (modeOf rounding) ≡ rounding = number-back rounding (rounding-asked rounding m (length before) asked) in
+      subst (λ (n : ℕ). ReadBack (Known (record { 0 = n })) rounding m (take (reply .length) after)) known
+      (rw written (read-all Cut2 cut2-found rounding m a))
+
+  -- and cannot be taken for CUT1: 16 bytes from its end those letters do not stand
+  pub never-old : endsIn Cut1 (take (reply .length) after) ≡ false
+  never-old = rw (written, list-parts Cut2 (modeOf rounding) m) (cut2-not-cut1 (allRecords (modeOf rounding) m) (listFields Cut2 (modeOf rounding) m))
+
+-- ---- what was written before
+
+-- document 01's list of a map that the list call accepts is read, every number kept, its rounding unknown
+pub old-read-back : (rounding : ℕ) (m : List ℕ) (room : ℕ) → listRefusal rounding m room ≡ 0
+    → ReadBack Unknown rounding m (listOf Cut1 (modeOf rounding) m)
+old-read-back rounding m room e = read-all Cut1 cut1-found rounding m (accepted-of m room (map-asked rounding m room e))

@@ -2,7 +2,7 @@
 use mathlib.Core.Path.{_≡_}
 use mathlib.Core.Logic.{_↔_}
 use mathlib.Core.List.{List}
-use Prim.Native.Nat.{ℕ, suc, _<_}
+use Prim.Native.Nat.{ℕ, suc, _*_, _<_}
 use lib.ListN.{take}
 use lib.IntN.{pos, _+ℤ_}
 use Rattle.kinds.specs.Operation.{opOf}
@@ -11,6 +11,7 @@ use Rattle.ieee.specs.Agree.{Agree}
 use Rattle.cutter.specs.Map.{widthOf, depthOf}
 use Rattle.cutter.specs.List.{countOf, entryAt}
 use Rattle.cutter.specs.Agree.{ExactMap}
+use Rattle.bracket.specs.Bracket.{EndsAlike}
 use Rattle.plate.specs.declared.Binary32Reply.{Binary32Reply}
 use Rattle.plate.specs.declared.ListReply.{ListReply}
 
@@ -19,10 +20,13 @@ pub record Binary32Bracket (operation operand : ℕ) (lower upper : Binary32Repl
   pub equal : (lower .bits ≡ upper .bits) ↔ Agree binary32 (opOf operation) (magnitudeOf binary32 operand)
   pub next : (Agree binary32 (opOf operation) (magnitudeOf binary32 operand) → ⊥) → upper .bits ≡ suc (lower .bits)
 
--- two lists of the map m, each the bytes that a call left in its buffer, over the length that it reported: equal byte for byte exactly
--- where the map is exact at every inner point; of two entries that differ, the upper is larger by one micrometre
+-- two lists of the map m, each what a call left in its buffer, over the length that it reported: their records are equal byte for byte
+-- exactly where the map is exact at every inner point; of two entries that differ, the upper is larger by one micrometre; behind the
+-- records they end alike but for the rounding
 pub record ListsBracket (m : List ℕ) (lower upper : ListReply) (lowest uppermost : List ℕ) : Type 0 where
-  pub equal : (take (lower .length) lowest ≡ take (upper .length) uppermost) ↔ ExactMap m
+  pub equal :
+      (take (12 * countOf (widthOf m) (depthOf m)) lowest ≡ take (12 * countOf (widthOf m) (depthOf m)) uppermost) ↔ ExactMap m
   pub next : (n j : ℕ) → n < countOf (widthOf m) (depthOf m) → j < 3
       → (entryAt lowest n j ≡ entryAt uppermost n j → ⊥)
       → entryAt uppermost n j ≡ entryAt lowest n j +ℤ pos 1
+  pub ends : EndsAlike (12 * countOf (widthOf m) (depthOf m)) (take (lower .length) lowest) (take (upper .length) uppermost)

@@ -2,14 +2,14 @@
 use mathlib.Core.Path.{_≡_, refl, ap}
 use mathlib.Core.Bool.{Bool, true, false}
 use mathlib.Core.List.{List}
-use Prim.Native.Nat.{ℕ, _+_, _≤_}
+use Prim.Native.Nat.{ℕ, _+_, _≤_, _<_}
 use native.Mathlib.Omega.{arith}
 use lib.ListN.{length, length-append}
 use Rattle.words.specs.Word.{halfBytes, wordBytes}
 use Rattle.trailer.specs.Kinds.{LayoutIs, layoutOf, lettersOf, lengthOf, isWide, isRounded, radiusSize, roundingSize}
-use Rattle.trailer.specs.Bytes.{radiusBytes, roundingBytes, frontBytes, trailerBytes}
+use Rattle.trailer.specs.Bytes.{radiusBytes, roundingBytes, frontBytes, trailerBytes, radiusEnd}
 use Rattle.trailer.specs.declared.Kind.{Kind}
-use Rattle.trailer.specs.declared.Kind.the-variants.{Plt1, Cut1}
+use Rattle.trailer.specs.declared.Kind.the-variants.{Plt1, Cut1, Cut2}
 use Rattle.trailer.specs.declared.Fields.{Fields}
 use Rattle.trailer.specs.declared.Layout.{Layout}
 
@@ -21,10 +21,12 @@ length-front letters f e = simp length-append (omega arith)
 pub length-is : (k : Kind) → lengthOf k ≡ 14 + (radiusSize (isWide k) + roundingSize (isRounded k))
 length-is Plt1 = refl
 length-is Cut1 = refl
+length-is Cut2 = refl
 
 pub length-bounds : (k : Kind) → (16 ≤ lengthOf k) × (lengthOf k ≤ 20)
 length-bounds Plt1 = omega arith
 length-bounds Cut1 = omega arith
+length-bounds Cut2 = omega arith
 
 pub layout-told : (k : Kind) (y : Layout) → y ≡ layoutOf k → LayoutIs k y
 layout-told k y e =
@@ -33,6 +35,7 @@ layout-told k y e =
 pub length-letters : (k : Kind) → length (lettersOf k) ≡ 4
 length-letters Plt1 = refl
 length-letters Cut1 = refl
+length-letters Cut2 = refl
 
 pub length-radius : (wide : Bool) (x : ℕ) → length (radiusBytes wide x) ≡ radiusSize wide
 unfolding wordBytes halfBytes
@@ -43,6 +46,11 @@ pub length-rounding : (rounded : Bool) (x : ℕ) → length (roundingBytes round
 unfolding halfBytes
 length-rounding true x = refl
 length-rounding false x = refl
+
+-- a number of 16 bits is a radius in every kind
+pub radius-held : (wide : Bool) (x : ℕ) → x < 65536 → x < radiusEnd wide
+radius-held true x h = omega arith
+radius-held false x h = h
 
 pub length-trailer : (k : Kind) (f : Fields) → length (trailerBytes k f) ≡ lengthOf k
 unfolding trailerBytes

@@ -2,5 +2,6 @@ pub mod Layouts
 pub mod Putting
 pub mod Readings
 pub mod RoundTrip
+pub mod Seeking
 pub mod Kept
 pub mod Rows

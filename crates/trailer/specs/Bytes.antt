@@ -1,12 +1,13 @@
 -- A trailer of each kind: its fields by their places from its first byte, and its bytes. Assumes nothing.
 use Prim.Native.Nat.{ℕ, _+_, _-_, _<_}
-use mathlib.Core.Bool.{Bool, true, false, _&&_}
+use mathlib.Core.Bool.{Bool, true, false, cond, _&&_}
 use mathlib.Core.List.{List, [], _++_}
 use lib.Dec.{leb}
 use lib.ListN.{length}
 use Rattle.words.specs.Word.{halfAt, wordAt, halfBytes, wordBytes, readsAt}
 use Rattle.trailer.specs.Kinds.{lettersOf, lengthOf, isWide, isRounded, radiusSize}
 use Rattle.trailer.specs.declared.Kind.{Kind}
+use Rattle.trailer.specs.declared.Kind.the-variants.{Cut1, Cut2}
 use Rattle.trailer.specs.declared.Fields.{Fields}
 
 -- a radius of 32 bits, or of 16
@@ -38,6 +39,11 @@ lastFields k m = fieldsAt k m (length m - lengthOf k)
 -- whether the letters of a kind stand as far from the end as its trailer is long; not where the bytes are fewer
 unfoldable pub endsIn : Kind → List ℕ → Bool
 endsIn k m = leb (lengthOf k) (length m) && readsAt m (length m - lengthOf k) (lettersOf k)
+
+-- the kind of a list: CUT1 is sought first, then CUT2, and the first found decides; where neither is found it is the last sought, whose
+-- letters do not stand there
+unfoldable pub listKind : List ℕ → Kind
+listKind m = cond (endsIn Cut1 m) Cut1 Cut2
 
 abbrev pub radiusBytes : Bool → ℕ → List ℕ
 radiusBytes true x = wordBytes x

@@ -4,13 +4,18 @@ use mathlib.Core.Path.{_≡_}
 use mathlib.Core.Bool.{Bool, true, false}
 use mathlib.Core.List.{List, [], _∷_}
 use Rattle.trailer.specs.declared.Kind.{Kind}
-use Rattle.trailer.specs.declared.Kind.the-variants.{Plt1, Cut1}
+use Rattle.trailer.specs.declared.Kind.the-variants.{Plt1, Cut1, Cut2}
 use Rattle.trailer.specs.declared.Layout.{Layout}
 
--- what each kind fixes: the letters PLT1 for a map, CUT1 for a list
+-- what each kind fixes: the letters PLT1 for a map, CUT1 for a list of document 01, CUT2 for one that says its rounding
 abbrev pub layoutOf : Kind → Layout
 layoutOf Plt1 = record { letters = 80 ∷ 76 ∷ 84 ∷ 49 ∷ []; length = 16; wide = false; rounded = false }
 layoutOf Cut1 = record { letters = 67 ∷ 85 ∷ 84 ∷ 49 ∷ []; length = 16; wide = false; rounded = false }
+layoutOf Cut2 = record { letters = 67 ∷ 85 ∷ 84 ∷ 50 ∷ []; length = 18; wide = false; rounded = true }
+
+-- new lists end in this kind
+abbrev pub newList : Kind
+newList = Cut2
 
 abbrev pub lettersOf : Kind → List ℕ
 lettersOf k = layoutOf k .letters

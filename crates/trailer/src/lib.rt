@@ -4,7 +4,7 @@ ghost use Prim.Native.Nat.{_+_, _≤_};
 ghost use lib.ListN.{length};
 ghost use Rattle.words.specs.Splice.{splice};
 ghost use Rattle.trailer.specs.Kinds.{LayoutIs, lengthOf, radiusSize, roundingSize};
-ghost use Rattle.trailer.specs.Bytes.{radiusBytes, roundingBytes, frontBytes, trailerBytes, endsIn};
+ghost use Rattle.trailer.specs.Bytes.{radiusBytes, roundingBytes, frontBytes, trailerBytes, endsIn, listKind};
 ghost use Rattle.trailer.specs.Reading.{RadiusRead, RoundingRead, TrailerRead, LastRead};
 use words::half_at;
 use words::put_four;
@@ -17,6 +17,7 @@ use words::word_at;
 pub enum Kind {
     Plt1,
     Cut1,
+    Cut2,
 }
 
 // What follows the letters: the distance from the trailer's first byte back to the first of what it describes; the sizes of the map;
@@ -54,6 +55,12 @@ pub fn layout_of(kind: Kind) -> Layout
             length: 16,
             wide: false,
             rounded: false,
+        },
+        Kind::Cut2 => Layout {
+            letters: *b"CUT2",
+            length: 18,
+            wide: false,
+            rounded: true,
         },
     }
 }
@@ -177,4 +184,16 @@ pub fn ends_in(bytes: &[u8], kind: Kind) -> bool
         return false;
     }
     reads_at(bytes, end - layout.length, letters)
+}
+
+// The kind of trailer that a list's questions are about: the first of those of lists that the bytes end in, and the last where they end
+// in none.
+pub fn list_kind(bytes: &[u8]) -> Kind
+    ensures { λ r. ⌜ r ≡ listKind (now (bytes .entry)) ⌝ }
+{
+    if ends_in(bytes, Kind::Cut1) {
+        Kind::Cut1
+    } else {
+        Kind::Cut2
+    }
 }

@@ -1,6 +1,6 @@
 -- Runs of k bytes, one after the other: how long they are, what stands at a place of them, and a loop that puts one run a turn. Assumes nothing.
 use mathlib.Core.Path.{_≡_, refl, sym, ap, _∙_}
-use mathlib.Core.List.{List, _++_, append-nil, append-assoc}
+use mathlib.Core.List.{List, [], _++_, append-nil, append-assoc}
 use Prim.Native.Nat.{ℕ, zero, suc, _+_, _*_, _≤_, _<_}
 use native.Mathlib.Nat.{add-zero, add-suc, add-assoc, zero-mul, suc-mul, mul-le-mul-right, not-suc-le-zero}
 use native.Mathlib.Numerals.{add-one}
@@ -89,12 +89,12 @@ module _ (f : ℕ → List ℕ) (k : ℕ) (each : (i : ℕ) → length (f i) ≡
 
 -- runs of k bytes of two sequences that are the same, whatever is behind them, are the same one by one
 pub joined-apart : (f g : ℕ → List ℕ) (k : ℕ) → ((i : ℕ) → length (f i) ≡ k) → ((i : ℕ) → length (g i) ≡ k)
-    → (n : ℕ) (s t : List ℕ) → joined f n ++ s ≡ joined g n ++ t → (i : ℕ) → i < n → f i ≡ g i
-joined-apart f g k a b n s t e i h =
+    → (n : ℕ) → joined f n ≡ joined g n → (i : ℕ) → i < n → f i ≡ g i
+joined-apart f g k a b n e i h =
     ext-getD 0 (f i) (g i) (a i ∙ sym (b i))
     (λ j l.
     let m : j < k = rw (a i) at l in
-    sym (joined-getD f k a n i j s h m) ∙ ap (λ (x : List ℕ). getD x (i * k + j) 0) e ∙ joined-getD g k b n i j t h m)
+    sym (joined-getD f k a n i j [] h m) ∙ ap (λ (x : List ℕ). getD (x ++ []) (i * k + j) 0) e ∙ joined-getD g k b n i j [] h m)
 
 -- a loop has put i of n runs over l₀ from `at` on, and now has l
 pub record Written (f : ℕ → List ℕ) (at n : ℕ) (l₀ l : List ℕ) (i : ℕ) : Type 0 where

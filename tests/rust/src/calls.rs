@@ -2,10 +2,14 @@
 
 use crate::reference::Reading;
 
+/// PLATE_ROUNDING_UNKNOWN.
+pub(crate) const ROUNDING_UNKNOWN: u8 = 255;
+
 /// The struct plate_record_reply.
 #[repr(C)]
 pub(crate) struct RecordReply {
     pub refusal: u8,
+    pub rounding: u8,
     pub width: u32,
     pub depth: u32,
     pub step: u32,
@@ -48,6 +52,7 @@ pub fn record(list: &[u8], index: usize) -> Reading {
     let reply = unsafe { plate_record(list.as_ptr(), list.len(), index) };
     (
         reply.refusal,
+        (reply.rounding != ROUNDING_UNKNOWN).then_some(reply.rounding),
         [reply.width, reply.depth, reply.step, reply.radius],
         [reply.x, reply.y, reply.z],
     )

@@ -81,23 +81,25 @@ pub fn some_map(chance: &mut Chance) -> Map {
     Map { w, d, step: step as u16, radius: radius as u16, heights }
 }
 
-/// Damages the trailer or the length of a map or a list. Kinds 0 to 8: the letters, the
-/// distance, each size, bytes in front, bytes behind, bytes missing.
-pub fn damage(chance: &mut Chance, kind: i64, bytes: &mut Vec<u8>) {
+/// Damages the length of a map or a list or its trailer, which has so many bytes. Kinds
+/// 0 to 8: the letters, the distance, each size, bytes in front, bytes behind, bytes
+/// missing.
+pub fn damage(chance: &mut Chance, kind: i64, trailer: usize, bytes: &mut Vec<u8>) {
     let end = bytes.len();
+    let front = end - trailer;
     match kind {
-        0 => bytes[end - 16 + chance.range(0, 3) as usize] ^= 1 << chance.range(0, 7),
-        1 => bytes[end - 12 + chance.range(0, 3) as usize] ^= 1 << chance.range(0, 7),
+        0 => bytes[front + chance.range(0, 3) as usize] ^= 1 << chance.range(0, 7),
+        1 => bytes[front + chance.range(4, 7) as usize] ^= 1 << chance.range(0, 7),
         2..=5 => {
             let size = chance.pick(&[0, 1, 2, 3, 4, 63, 64, 65, 255, 256, 768, 10_000, 10_001, 12_500,
                 12_501, 32_768, 32_771, 65_535]);
-            let at = end - 8 + 2 * (kind as usize - 2);
+            let at = front + 8 + 2 * (kind as usize - 2);
             bytes[at..at + 2].copy_from_slice(&(size as u16).to_le_bytes());
         }
         6 => {
             let count = chance.range(1, 20) as usize;
-            let front = chance.bytes(count);
-            bytes.splice(0..0, front);
+            let before = chance.bytes(count);
+            bytes.splice(0..0, before);
         }
         7 => {
             let count = chance.range(1, 20) as usize;

@@ -1,6 +1,6 @@
-//! Document 01 in plain Rust with whole numbers, the three layers in its order,
-//! and document 02's reader (#101). Each call gives its refusal first, 0 if it was
-//! accepted.
+//! Document 01 in plain Rust with whole numbers, the three layers in its order, with
+//! document 02's rounding in the list (#102), and its reader (#101). Each call gives
+//! its refusal first, 0 if it was accepted.
 
 use std::cmp::Ordering;
 use std::sync::LazyLock;
@@ -194,7 +194,10 @@ pub fn binary32(operation: u8, rounding: u8, bits: u32, status: u8) -> (u8, u32,
 
 // -------------------------------------------------------------- Map and list
 
+/// Of a map, and of document 01's lists.
 pub const TRAILER: usize = 16;
+/// Of the lists written since #102.
+pub const LIST_TRAILER: usize = 18;
 
 fn four(bytes: &[u8], at: usize) -> [u8; 4] {
     bytes[at..at + 4].try_into().unwrap()
@@ -204,12 +207,20 @@ fn i32_at(bytes: &[u8], at: usize) -> i32 {
     i32::from_le_bytes(four(bytes, at))
 }
 
-/// The letters, the distance back, and w, d, step and radius, from the last 16 bytes
-/// of a map or a list.
-fn trailer(bytes: &[u8]) -> ([u8; 4], usize, [usize; 4]) {
-    let last = &bytes[bytes.len() - TRAILER..];
-    let size = |at| u16::from_le_bytes([last[at], last[at + 1]]) as usize;
-    (four(last, 0), u32::from_le_bytes(four(last, 4)) as usize, [8, 10, 12, 14].map(size))
+fn u16_at(bytes: &[u8], at: usize) -> u16 {
+    u16::from_le_bytes([bytes[at], bytes[at + 1]])
+}
+
+/// The last bytes, this many, if the letters stand at their front.
+fn trailer<'a>(bytes: &'a [u8], letters: &[u8; 4], length: usize) -> Option<&'a [u8]> {
+    let end = &bytes[bytes.len().checked_sub(length)?..];
+    end.starts_with(letters).then_some(end)
+}
+
+/// The distance back, and w, d, step and radius, of a trailer.
+fn fields(end: &[u8]) -> (usize, [usize; 4]) {
+    let distance = u32::from_le_bytes(four(end, 4)) as usize;
+    (distance, [8, 10, 12, 14].map(|at| u16_at(end, at) as usize))
 }
 
 pub fn record_count(w: usize, d: usize) -> usize {
@@ -217,7 +228,7 @@ pub fn record_count(w: usize, d: usize) -> usize {
 }
 
 pub fn list_length(w: usize, d: usize) -> usize {
-    12 * record_count(w, d) + TRAILER
+    12 * record_count(w, d) + LIST_TRAILER
 }
 
 /// component * radius / sqrt(square), rounded once.
@@ -257,10 +268,10 @@ fn list_refusal(rounding: u8, map: &[u8], room: usize) -> u8 {
     if map.len() < TRAILER {
         return 5;
     }
-    let (letters, distance, sizes) = trailer(map);
-    if &letters != b"PLT1" {
+    let Some(end) = trailer(map, b"PLT1", TRAILER) else {
         return 6;
-    }
+    };
+    let (distance, sizes) = fields(end);
     if sizes_refusal(sizes) != 0 {
         return sizes_refusal(sizes);
     }
@@ -279,7 +290,7 @@ fn list_refusal(rounding: u8, map: &[u8], room: usize) -> u8 {
 
 /// One centre per inner point of an accepted map, row by row.
 pub fn centres(rounding: u8, map: &[u8]) -> Vec<[i32; 3]> {
-    let (_, _, [w, d, step, radius]) = trailer(map);
+    let (_, [w, d, step, radius]) = fields(&map[map.len() - TRAILER..]);
     let (step, radius) = (step as i64, radius as u64);
     let height = |c: usize, row: usize| i32_at(map, 4 * (row * w + c));
     let mut centres = Vec::new();
@@ -306,47 +317,67 @@ pub fn list(rounding: u8, map: &[u8], list: &mut [u8]) -> (u8, u32) {
     let numbers = centres(rounding, map).concat();
     let mut made: Vec<u8> = numbers.iter().flat_map(|number| number.to_le_bytes()).collect();
     let distance = made.len() as u32;
-    made.extend(b"CUT1");
+    made.extend(b"CUT2");
     made.extend(distance.to_le_bytes());
     made.extend(&map[map.len() - 8..]);
+    made.extend((rounding as u16).to_le_bytes());
     list[..made.len()].copy_from_slice(&made);
     (0, made.len() as u32)
 }
 
-// ------------------------------------------------- Read a list back (02, #101)
+// ------------------------------------------ Read a list back (02, #101, #102)
 
-/// Refusal; w, d, step and radius; x, y and z.
-pub type Reading = (u8, [u32; 4], [i32; 3]);
+/// Refusal; the rounding, if it is known; w, d, step and radius; x, y and z.
+pub type Reading = (u8, Option<u8>, [u32; 4], [i32; 3]);
 
-/// The first question of 5, 12, 7, 8 and 13 that is answered "no", or 0.
+/// What the reader gives after a refusal.
+pub fn refused(number: u8) -> Reading {
+    (number, None, [0; 4], [0; 3])
+}
+
+/// Of document 01's kind, or else of #102's.
+fn list_trailer(list: &[u8]) -> Option<&[u8]> {
+    trailer(list, b"CUT1", TRAILER).or_else(|| trailer(list, b"CUT2", LIST_TRAILER))
+}
+
+/// The rounding that a list's trailer states, if it has a place for one.
+fn stated_rounding(end: &[u8]) -> Option<u16> {
+    (end.len() == LIST_TRAILER).then(|| u16_at(end, 16))
+}
+
+/// The first question of 5, 12, 7, 8, 13 and 2 that is answered "no", or 0.
 fn reader_refusal(list: &[u8]) -> u8 {
     if list.len() < TRAILER {
         return 5;
     }
-    let (letters, distance, sizes) = trailer(list);
-    if &letters != b"CUT1" {
+    let Some(end) = list_trailer(list) else {
         return 12;
-    }
+    };
+    let (distance, sizes) = fields(end);
     if sizes_refusal(sizes) != 0 {
         return sizes_refusal(sizes);
     }
     let [w, d, ..] = sizes;
-    if distance != 12 * record_count(w, d) || list.len() != distance + TRAILER {
+    if distance != 12 * record_count(w, d) || list.len() != distance + end.len() {
         return 13;
+    }
+    if stated_rounding(end).is_some_and(|rounding| rounding > 3) {
+        return 2;
     }
     0
 }
 
 pub fn record(list: &[u8], index: usize) -> Reading {
-    let refused = |number| (number, [0; 4], [0; 3]);
     let refusal = reader_refusal(list);
     if refusal != 0 {
         return refused(refusal);
     }
-    let (_, _, sizes) = trailer(list);
+    let end = list_trailer(list).unwrap();
+    let (_, sizes) = fields(end);
     if index >= record_count(sizes[0], sizes[1]) {
         return refused(14);
     }
+    let rounding = stated_rounding(end).map(|rounding| rounding as u8);
     let numbers = [0, 4, 8].map(|at| i32_at(list, 12 * index + at));
-    (0, sizes.map(|size| size as u32), numbers)
+    (0, rounding, sizes.map(|size| size as u32), numbers)
 }

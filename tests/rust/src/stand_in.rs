@@ -3,7 +3,7 @@
 //! with it says nothing about the library; it says that the references agree
 //! with the machine, with the vector files and among themselves.
 
-use crate::calls::RecordReply;
+use crate::calls::{RecordReply, ROUNDING_UNKNOWN};
 use crate::{pack, reference};
 
 #[no_mangle]
@@ -39,6 +39,7 @@ unsafe extern "C" fn plate_list(
 #[no_mangle]
 unsafe extern "C" fn plate_record(list: *const u8, list_length: usize, index: usize) -> RecordReply {
     let list = std::slice::from_raw_parts(list, list_length);
-    let (refusal, [width, depth, step, radius], [x, y, z]) = reference::record(list, index);
-    RecordReply { refusal, width, depth, step, radius, x, y, z }
+    let (refusal, rounding, [width, depth, step, radius], [x, y, z]) = reference::record(list, index);
+    let rounding = rounding.unwrap_or(ROUNDING_UNKNOWN);
+    RecordReply { refusal, rounding, width, depth, step, radius, x, y, z }
 }

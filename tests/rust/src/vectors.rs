@@ -12,29 +12,18 @@ pub fn file(folder: &str, name: &str) -> Vec<u8> {
     std::fs::read(&path).unwrap_or_else(|error| panic!("{}: {error}", path.display()))
 }
 
+/// The words of each line.
+fn lines(folder: &str, name: &str) -> Vec<Vec<String>> {
+    let text = String::from_utf8(file(folder, name)).unwrap();
+    text.lines().map(|line| line.split(' ').map(String::from).collect()).collect()
+}
+
 /// The operands of each call of a kind, r or b, and what it gives.
 pub fn calls(kind: &str) -> Vec<(Vec<String>, Vec<String>)> {
-    let words = |name| -> Vec<Vec<String>> {
-        String::from_utf8(file("call_vectors", name))
-            .unwrap()
-            .lines()
-            .map(|line| line.split(' ').map(String::from).collect())
-            .collect()
-    };
-    let (given, expected) = (words("stdin"), words("stdout"));
+    let (given, expected) = (lines("call_vectors", "stdin"), lines("call_vectors", "stdout"));
     assert_eq!(given.len(), expected.len());
     let both = given.into_iter().zip(expected);
     both.filter(|(given, _)| given[0] == kind).map(|(given, expected)| (given[1..].to_vec(), expected)).collect()
-}
-
-/// The lines of a stdout that holds N numbers a line.
-fn lines<const N: usize>(folder: &str) -> Vec<[i64; N]> {
-    let text = String::from_utf8(file(folder, "stdout")).unwrap();
-    let numbers = |line: &str| -> [i64; N] {
-        let words: Vec<i64> = line.split(' ').map(|word| word.parse().unwrap()).collect();
-        words.try_into().unwrap()
-    };
-    text.lines().map(numbers).collect()
 }
 
 fn take<'a>(given: &mut &'a [u8], count: usize) -> &'a [u8] {
@@ -65,7 +54,10 @@ pub struct Frame {
 pub fn frames() -> Vec<Frame> {
     let given = file("list_vectors", "stdin");
     let mut given = given.as_slice();
-    let mut expected = lines("list_vectors").into_iter();
+    let mut expected = lines("list_vectors", "stdout").into_iter().map(|line| {
+        let numbers: Vec<i64> = line.iter().map(|word| word.parse().unwrap()).collect();
+        numbers.try_into().unwrap()
+    });
     let mut frames = Vec::new();
     while !given.is_empty() {
         let (map, room) = take_frame(&mut given);
@@ -91,14 +83,18 @@ pub struct RecordFrame {
     pub expected: Vec<Reading>,
 }
 
+/// refusal rounding w d step radius x y z; an unknown rounding is -.
+fn reading(line: Vec<String>) -> Reading {
+    assert_eq!(line.len(), 9);
+    let rounding = (line[1] != "-").then(|| line[1].parse().unwrap());
+    let sizes = [2, 3, 4, 5].map(|k: usize| line[k].parse().unwrap());
+    (line[0].parse().unwrap(), rounding, sizes, [6, 7, 8].map(|k: usize| line[k].parse().unwrap()))
+}
+
 pub fn record_frames() -> Vec<RecordFrame> {
     let given = file("record_vectors", "stdin");
     let mut given = given.as_slice();
-    let mut expected = lines("record_vectors").into_iter().map(|line: [i64; 8]| {
-        let [refusal, w, d, step, radius, x, y, z] = line;
-        let sizes = [w, d, step, radius].map(|size| size.try_into().unwrap());
-        (refusal.try_into().unwrap(), sizes, [x, y, z].map(|number| number.try_into().unwrap()))
-    });
+    let mut expected = lines("record_vectors", "stdout").into_iter().map(reading);
     let mut frames = Vec::new();
     while !given.is_empty() {
         let (list, count) = take_frame(&mut given);

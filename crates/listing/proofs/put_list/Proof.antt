@@ -14,6 +14,12 @@ put-points-requires c κs = (search ready-of, search records-room)
 records-length-requires : tie.Need-records-length-requires
 records-length-requires c κs = search sizes-of
 
+number-requires : tie.Need-number-requires
+number-requires c κs = search needs
+
+cast-t13 : tie.Need-cast-t13
+cast-t13 c = search needs
+
 put-requires : tie.Need-put-requires
 put-requires c κs = search trailer-room
 
@@ -36,6 +42,8 @@ put-list-spec =
     read-last-requires
     put-points-requires
     records-length-requires
+    number-requires
+    cast-t13
     put-requires
     length-of-requires
     add-result

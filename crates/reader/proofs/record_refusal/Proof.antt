@@ -10,6 +10,9 @@ refusal-requires c κs = search needs
 returns : tie.Need-returns
 returns c = search list-asked
 
+list-kind-requires : tie.Need-list-kind-requires
+list-kind-requires c κs = search needs
+
 read-last-requires : tie.Need-read-last-requires
 read-last-requires c κs = search list-fits
 
@@ -25,4 +28,11 @@ returns-3 c = search fourteen
 pub record-refusal-spec : {M : Type 1} → statement M
 record-refusal-spec =
     tie.close
-    (tie.spec refusal-requires returns read-last-requires count-requires returns-2 returns-3)
+    (tie.spec
+    refusal-requires
+    returns
+    list-kind-requires
+    read-last-requires
+    count-requires
+    returns-2
+    returns-3)
