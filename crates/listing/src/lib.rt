@@ -35,13 +35,14 @@ pub fn put_list(mode: Mode, map: &[u8], out: &mut [u8]) -> usize
     let trailer = read_last(map, Kind::Plt1);
     put_points(mode, map, out, trailer);
     let end = records_length(trailer.width, trailer.depth);
+    let rounding = mode.number() as u64;
     let fields = Fields {
         distance: end as u64,
         width: trailer.width,
         depth: trailer.depth,
         step: trailer.step,
         radius: trailer.radius,
-        rounding: mode.number() as u64,
+        rounding,
     };
     put(out, end, Kind::Cut2, fields);
     end + length_of(Kind::Cut2)

@@ -186,14 +186,10 @@ pub fn ends_in(bytes: &[u8], kind: Kind) -> bool
     reads_at(bytes, end - layout.length, letters)
 }
 
-// The kind of trailer that a list's questions are about: the first of those of lists that the bytes end in, and the last where they end
-// in none.
+// The kind of a list by its trailer: CUT1 where its letters stand, and CUT2 otherwise, whether its own do or not.
 pub fn list_kind(bytes: &[u8]) -> Kind
     ensures { λ r. ⌜ r ≡ listKind (now (bytes .entry)) ⌝ }
 {
-    if ends_in(bytes, Kind::Cut1) {
-        Kind::Cut1
-    } else {
-        Kind::Cut2
-    }
+    let old = ends_in(bytes, Kind::Cut1);
+    if old { Kind::Cut1 } else { Kind::Cut2 }
 }

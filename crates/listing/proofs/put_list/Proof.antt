@@ -17,8 +17,8 @@ records-length-requires c κs = search sizes-of
 number-requires : tie.Need-number-requires
 number-requires c κs = search needs
 
-cast-t13 : tie.Need-cast-t13
-cast-t13 c = search needs
+cast-rounding : tie.Need-cast-rounding
+cast-rounding c = search needs
 
 put-requires : tie.Need-put-requires
 put-requires c κs = search trailer-room
@@ -43,7 +43,7 @@ put-list-spec =
     put-points-requires
     records-length-requires
     number-requires
-    cast-t13
+    cast-rounding
     put-requires
     length-of-requires
     add-result
