@@ -1,5 +1,5 @@
-/* The plate unit, called from C. Document 01 and request #101 of document 02 say
-   what each call answers.
+/* The plate unit, called from C. Document 01 and requests #101 and #102 of
+   document 02 say what each call answers.
 
    Every call takes every value of its numbers and checks them itself. All but
    plate_record give one 64-bit number:
@@ -34,6 +34,10 @@ extern "C" {
 #define PLATE_DOWN 2
 #define PLATE_TOWARD_ZERO 3
 
+/* What plate_record tells of a list that does not say its rounding. No call takes
+   it for a rounding: each refuses it with 2. */
+#define PLATE_ROUNDING_UNKNOWN 255
+
 /* Flags of the status */
 #define PLATE_INVALID 1
 #define PLATE_DIVISION_BY_ZERO 2
@@ -54,20 +58,24 @@ uint64_t plate_raw(uint8_t operation, uint32_t significand, uint8_t parity);
 uint64_t plate_binary32(uint8_t operation, uint8_t rounding, uint8_t status,
                         uint32_t bits);
 
-/* The cutter list of a map. The map is only read. After an accepted call the
-   list stands at the front of the lent buffer and the bytes behind it are kept;
-   after a refusal the whole buffer is. Refusals: 2, 5 to 11. Each pointer spans
+/* The cutter list of a map, of 12 (w - 2) (d - 2) + 18 bytes; its trailer says
+   which rounding made it. The map is only read. After an accepted call the list
+   stands at the front of the lent buffer and the bytes behind it are kept; after a
+   refusal the whole buffer is. Refusals: 2, 5 to 11. Each pointer spans
    its length, and the two do not overlap. Neither may be null, even where its
    length is 0: pass the address of any byte instead. */
 uint64_t plate_list(uint8_t rounding, const uint8_t *map, size_t map_length,
                     uint8_t *list, size_t list_length);
 
-/* What plate_record gives: refusal 0 with the sizes that the list's trailer
-   states and the coordinates of one record; or a refusal, and 0 in every other
-   place. Width and depth are the map's columns and rows; the other numbers are
-   micrometres. */
+/* What plate_record gives: refusal 0 with the rounding that made the list, the
+   sizes that its trailer states and the coordinates of one record; or a refusal,
+   PLATE_ROUNDING_UNKNOWN, and 0 in every other place. A list that ends in CUT2
+   says its rounding, 0 to 3; one that ends in CUT1, as document 01 has it, does
+   not, and its rounding is PLATE_ROUNDING_UNKNOWN too. Width and depth are the
+   map's columns and rows; the numbers from step on are micrometres. */
 struct plate_record_reply {
   uint8_t refusal;
+  uint8_t rounding;
   uint32_t width;
   uint32_t depth;
   uint32_t step;
@@ -77,10 +85,10 @@ struct plate_record_reply {
   int32_t z;
 };
 
-/* A list read back: its sizes, and its record at an index, which counts from 0,
-   row by row. The list is only read. Its length is the list's own, as plate_list
-   reported it, not that of the buffer that holds it. Refusals: 5, 12, 7, 8, 13
-   and 14, in this order. The pointer spans the length, and is not null even
+/* A list read back: its rounding, its sizes, and its record at an index, which
+   counts from 0, row by row. The list is only read. Its length is the list's own,
+   as plate_list reported it, not that of the buffer that holds it. Refusals: 5,
+   12, 7, 8, 13, 2 and 14, in this order. The pointer spans the length, and is not null even
    where that is 0. */
 struct plate_record_reply plate_record(const uint8_t *list, size_t list_length,
                                        size_t index);

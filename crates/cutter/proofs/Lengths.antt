@@ -38,6 +38,11 @@ pub list-length-is : (m : List ℕ) → listLength m ≡ 12 * countOf (widthOf m
 unfolding listLength
 list-length-is m = refl
 
+-- a 3 × 3 map needs 30 bytes
+pub smallest-list : (m : List ℕ) → widthOf m ≡ 3 → depthOf m ≡ 3 → listLength m ≡ 30
+unfolding listLength
+smallest-list m w d = rw (w, d) refl
+
 pub length-list : (mode : Mode) (m : List ℕ) → length (listBytes mode m) ≡ listLength m
 unfolding listLength
 length-list mode m = length-of-list newList mode m

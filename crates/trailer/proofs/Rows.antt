@@ -4,7 +4,7 @@ use mathlib.Core.List.{[], _∷_}
 use Rattle.words.specs.Word.{halfBytes, wordBytes}
 use Rattle.trailer.specs.Bytes.{fieldsAt, frontBytes, trailerBytes}
 use Rattle.trailer.specs.declared.Fields.{Fields}
-use Rattle.trailer.specs.declared.Kind.the-variants.{Plt1, Cut1}
+use Rattle.trailer.specs.declared.Kind.the-variants.{Plt1, Cut1, Cut2}
 
 -- a 3 × 4 map with step 2,000 and radius 5,000
 abbrev map : Fields
@@ -18,7 +18,7 @@ pub map-read : fieldsAt Plt1 (80 ∷ 76 ∷ 84 ∷ 49 ∷ 48 ∷ 0 ∷ 0 ∷ 0 �
 unfolding fieldsAt
 map-read = refl
 
--- its list, of two records
+-- its list, of two records, as document 01 has it
 abbrev list : Fields
 list = record { distance = 24; width = 3; depth = 4; step = 2000; radius = 5000; rounding = 0 }
 
@@ -29,3 +29,15 @@ list-written = refl
 pub list-read : fieldsAt Cut1 (67 ∷ 85 ∷ 84 ∷ 49 ∷ 24 ∷ 0 ∷ 0 ∷ 0 ∷ 3 ∷ 0 ∷ 4 ∷ 0 ∷ 208 ∷ 7 ∷ 136 ∷ 19 ∷ []) 0 ≡ list
 unfolding fieldsAt
 list-read = refl
+
+-- and as it is written now, rounded down
+abbrev new-list : Fields
+new-list = record { distance = 24; width = 3; depth = 4; step = 2000; radius = 5000; rounding = 2 }
+
+pub new-list-written : trailerBytes Cut2 new-list ≡ 67 ∷ 85 ∷ 84 ∷ 50 ∷ 24 ∷ 0 ∷ 0 ∷ 0 ∷ 3 ∷ 0 ∷ 4 ∷ 0 ∷ 208 ∷ 7 ∷ 136 ∷ 19 ∷ 2 ∷ 0 ∷ []
+unfolding trailerBytes frontBytes wordBytes halfBytes
+new-list-written = refl
+
+pub new-list-read : fieldsAt Cut2 (67 ∷ 85 ∷ 84 ∷ 50 ∷ 24 ∷ 0 ∷ 0 ∷ 0 ∷ 3 ∷ 0 ∷ 4 ∷ 0 ∷ 208 ∷ 7 ∷ 136 ∷ 19 ∷ 2 ∷ 0 ∷ []) 0 ≡ new-list
+unfolding fieldsAt
+new-list-read = refl
