@@ -35,7 +35,7 @@ extern "C" {
 #define PLATE_TOWARD_ZERO 3
 
 /* What plate_record tells of a list that does not say its rounding. No call takes
-   it for a rounding: each refuses it with 2. */
+   it for a rounding: plate_list refuses it with 2. */
 #define PLATE_ROUNDING_UNKNOWN 255
 
 /* Flags of the status */
@@ -67,8 +67,8 @@ uint64_t plate_binary32(uint8_t operation, uint8_t rounding, uint8_t status,
 uint64_t plate_list(uint8_t rounding, const uint8_t *map, size_t map_length,
                     uint8_t *list, size_t list_length);
 
-/* What plate_record gives: refusal 0 with the rounding that made the list, the
-   sizes that its trailer states and the coordinates of one record; or a refusal,
+/* What plate_record gives: refusal 0 with the rounding and the sizes that the
+   list's trailer states and the coordinates of one record; or a refusal,
    PLATE_ROUNDING_UNKNOWN, and 0 in every other place. A list that ends in CUT2
    says its rounding, 0 to 3; one that ends in CUT1, as document 01 has it, does
    not, and its rounding is PLATE_ROUNDING_UNKNOWN too. Width and depth are the
@@ -88,8 +88,8 @@ struct plate_record_reply {
 /* A list read back: its rounding, its sizes, and its record at an index, which
    counts from 0, row by row. The list is only read. Its length is the list's own,
    as plate_list reported it, not that of the buffer that holds it. Refusals: 5,
-   12, 7, 8, 13, 2 and 14, in this order. The pointer spans the length, and is not null even
-   where that is 0. */
+   12, 7, 8, 13, 2 and 14, in this order. The pointer spans the length, and is not
+   null even where that is 0. */
 struct plate_record_reply plate_record(const uint8_t *list, size_t list_length,
                                        size_t index);
 

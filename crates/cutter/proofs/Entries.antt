@@ -1,4 +1,5 @@
--- What the lent buffer holds after an accepted call: each entry of the list is a coordinate of its centre. Assumes nothing.
+-- What the lent buffer holds after an accepted call: each entry of the list is a coordinate of its centre; and what stands behind
+-- the records. Assumes nothing.
 use mathlib.Core.Path.{_≡_, refl, sym, ap, ap₂, _∙_}
 use mathlib.Core.List.{List, _++_, append-assoc}
 use Prim.Native.Nat.{ℕ, zero, suc, _+_, _*_, _<_}
@@ -15,8 +16,8 @@ use Rattle.words.specs.Splice.{splice}
 use Rattle.words.proofs.Differences.{word-small, signed-word}
 use Rattle.words.proofs.Splicing.{splice-take, splice-drop, three-back}
 use Rattle.words.proofs.Runs.{joined-same, joined-apart, joined-word}
-use Rattle.trailer.specs.Kinds.{lettersOf, newList}
-use Rattle.trailer.specs.Bytes.{frontBytes, trailerBytes}
+use Rattle.trailer.specs.Kinds.{lettersOf, isWide, newList}
+use Rattle.trailer.specs.Bytes.{frontBytes, radiusBytes, trailerBytes}
 use Rattle.trailer.specs.declared.Kind.{Kind}
 use Rattle.cutter.specs.Map.{widthOf, depthOf, radiusOf}
 use Rattle.cutter.specs.Centre.{Centre, coordinate, recordBytes}
@@ -102,7 +103,7 @@ module _ (k : Kind) (mode : Mode) (m rest : List ℕ) where
 -- all of it but the rounding, which stands last
 unfoldable pub trailerFront : List ℕ → List ℕ
 trailerFront m =
-    frontBytes (lettersOf newList) (listFields newList Nearest m) ++ halfBytes (radiusOf m)
+    frontBytes (lettersOf newList) (listFields newList Nearest m) ++ radiusBytes (isWide newList) (radiusOf m)
 
 pub length-trailer-front : (m : List ℕ) → length (trailerFront m) ≡ 16
 unfolding trailerFront frontBytes halfBytes wordBytes

@@ -18,7 +18,7 @@ use Rattle.trailer.specs.declared.Fields.{Fields}
 use Rattle.cutter.specs.Limits.{radiusMost}
 use Rattle.cutter.specs.List.{entryAt}
 use Rattle.reader.specs.Reader.{listTrailer, recordRefusal}
-use Rattle.reader.proofs.Questions.{record-held}
+use Rattle.reader.proofs.Questions.{trailer-told, record-held}
 use Rattle.plate.specs.declared.ListRounding.{ListRounding}
 use Rattle.plate.specs.declared.ListRounding.the-variants.{Unknown, Known}
 use Rattle.plate.specs.declared.RecordReply.{RecordReply}
@@ -44,9 +44,6 @@ module _ (b : List ℕ) (index n : ℕ) (e : n ≡ recordRefusal b index) (r : R
   unfolding recordCall
   accepted z f = rw (sym e ∙ z) f
 
-pub asked : (b : List ℕ) (index n : ℕ) → n ≡ recordRefusal b index → n ≡ 0 → recordRefusal b index ≡ 0
-asked b index n e z = sym e ∙ z
-
 -- what is read of a list that is accepted
 module _ (b : List ℕ) (index : ℕ) (z : recordRefusal b index ≡ 0) where
   pub record-fits : 12 * index + 12 ≤ length b
@@ -58,7 +55,7 @@ module _ (b : List ℕ) (index : ℕ) (z : recordRefusal b index ≡ 0) where
 
     module _ (t : Fields) (f : t ≡ lastFields k b) where
       told : t ≡ listTrailer b
-      told = f ∙ ap (λ (k : Kind). lastFields k b) i
+      told = trailer-told b k t i f
 
       pub rounding-most : t .rounding ≤ 3
       rounding-most = rw told (record-held b index z .0 .rounding)

@@ -8,7 +8,6 @@ use Rattle.trailer.specs.Kinds.{isRounded}
 use Rattle.trailer.specs.Bytes.{listKind}
 use Rattle.cutter.specs.List.{entryAt}
 use Rattle.reader.specs.Reader.{listTrailer, recordRefusal}
-use Rattle.plate.specs.declared.Rounding.{Rounding}
 use Rattle.plate.specs.declared.ListRounding.{ListRounding}
 use Rattle.plate.specs.declared.ListRounding.the-variants.{Unknown, Known}
 use Rattle.plate.specs.declared.RecordReply.{RecordReply}
@@ -43,7 +42,7 @@ recordRead b index =
 unfoldable pub recordCall : List ℕ → ℕ → RecordReply
 recordCall b index = cond (eqb (recordRefusal b index) 0) (recordRead b index) (refusedRecord (recordRefusal b index))
 
--- for C, which has no enums: the rounding's number, and 255 where it is unknown
+-- for C, which can be handed no cases: the rounding's number, and 255 where it is unknown
 abbrev pub roundingNumber : ListRounding → ℕ
 roundingNumber Unknown = 255
 roundingNumber (Known rounding) = rounding .0

@@ -49,8 +49,8 @@ pub extern "C" fn plate_list(rounding: u8, map: &[u8], buffer: &mut [u8]) -> u64
     pack(r.refusal, 0, r.length as u32)
 }
 
-// The record call's reply for C, which has no enums: the rounding by its number, and 255, which no call takes for a rounding, where it is
-// unknown.
+// The record call's reply for C, which can be handed no cases: the rounding by its number, and 255, which no call takes for a rounding,
+// where it is unknown.
 #[repr(C)]
 pub struct CRecordReply {
     pub refusal: u8,

@@ -160,14 +160,14 @@ pub fn list(rounding: Rounding, map: &[u8], buffer: &mut [u8]) -> ListReply
     ListReply { refusal, length }
 }
 
-// Which rounding made a list: unknown where its trailer has none, as in lists of document 01.
+// Which rounding made a list, as its trailer states it: unknown where that has none, as in lists of document 01.
 pub enum ListRounding {
     Unknown,
     Known(Rounding),
 }
 
-// What the record call gives back: refusal 0 with the rounding that made the list, the sizes of its trailer, columns and rows first, and
-// the record's coordinates, in micrometres like step and radius; or the number of a question, the rounding unknown, and 0 in every other
+// What the record call gives back: refusal 0 with the rounding and the sizes of the list's trailer, columns and rows first, and the
+// record's coordinates, in micrometres like step and radius; or the number of a question, the rounding unknown, and 0 in every other
 // place.
 pub struct RecordReply {
     pub refusal: u8,

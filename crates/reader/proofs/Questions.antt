@@ -17,17 +17,34 @@ use Rattle.words.specs.Word.{wordAt}
 use Rattle.words.specs.Signed.{signed}
 use Rattle.words.proofs.Bits.{signed-back}
 use Rattle.trailer.specs.Kinds.{lengthOf}
-use Rattle.trailer.specs.Bytes.{lastFields, listKind}
+use Rattle.trailer.specs.Bytes.{lastFields, endsIn, listKind}
 use Rattle.trailer.specs.declared.Kind.{Kind}
+use Rattle.trailer.specs.declared.Kind.the-variants.{Cut1, Cut2}
+use Rattle.trailer.proofs.Seeking.{kind-last}
 use Rattle.trailer.specs.declared.Fields.{Fields}
+use Rattle.cutter.specs.Limits.{bytesLeast}
 use Rattle.cutter.specs.List.{countOf, entryAt}
 use Rattle.cutter.specs.Sizes.{trailerRefusal, isWhole}
 use Rattle.cutter.specs.Accepted.{Sizes}
 use Rattle.cutter.proofs.Accepted.{trailed-of, whole-long}
+use Rattle.sizes.proofs.Questions.{letters}
 use Rattle.reader.specs.Reader.{listTrailer, recordsOf, readerRefusal, recordRefusal}
 use Rattle.reader.specs.Sound.{Sound}
 
+-- what is read of the kind that was found is the list's trailer
+pub trailer-told : (b : List ℕ) (k : Kind) (t : Fields) → k ≡ listKind b → t ≡ lastFields k b → t ≡ listTrailer b
+trailer-told b k t i f = f ∙ ap (λ (k : Kind). lastFields k b) i
+
 -- ---- the questions about the bytes
+
+-- bytes that end in neither kind get 12
+pub neither : (b : List ℕ) → bytesLeast ≤ length b → endsIn Cut1 b ≡ false → endsIn Cut2 b ≡ false → 12 ≡ readerRefusal b
+unfolding readerRefusal
+neither b h e f =
+    let k : Cut2 ≡ listKind b = kind-last b false (sym e) refl in
+    then-first (trailerRefusal (listKind b) 12 b) _ 12
+    (letters Cut2 12 b h false (sym f) refl ∙ ap (λ (k : Kind). trailerRefusal k 12 b) k)
+    (λ z. omega arith)
 
 module _ (b : List ℕ) (k : Kind) (n : ℕ) (i : k ≡ listKind b) (e : n ≡ trailerRefusal k 12 b) where
   asked-is : n ≡ trailerRefusal (listKind b) 12 b
@@ -41,7 +58,7 @@ module _ (b : List ℕ) (k : Kind) (n : ℕ) (i : k ≡ listKind b) (e : n ≡ t
   -- where it gets none, the length decides, and then the rounding
   module _ (z : n ≡ 0) (t : Fields) (f : t ≡ lastFields k b) (before : ℕ) (p : before ≡ 12 * countOf (t .width) (t .depth)) (r : Bool) (g : r ≡ isWhole k before (t .distance) (length b)) where
     read-is : t ≡ listTrailer b
-    read-is = f ∙ ap (λ (k : Kind). lastFields k b) i
+    read-is = trailer-told b k t i f
 
     whole-is : (v : Bool) → r ≡ v → isWhole (listKind b) (12 * recordsOf b) (listTrailer b .distance) (length b) ≡ v
     whole-is v o = cc read-is
@@ -92,7 +109,7 @@ module _ (b : List ℕ) (index n : ℕ) (e : n ≡ readerRefusal b) where
 
     module _ (t : Fields) (f : t ≡ lastFields k b) where
       told : t ≡ listTrailer b
-      told = f ∙ ap (λ (k : Kind). lastFields k b) i
+      told = trailer-told b k t i f
 
       pub list-sizes : Sizes (t .width) (t .depth)
       list-sizes = rw told (sound-of b (sym e ∙ z) .trailed .sizes)

@@ -2,7 +2,7 @@
 -- that it states. Assumes nothing.
 use mathlib.Core.Path.{_≡_, refl, sym, ap, subst, _∙_}
 use mathlib.Core.Bool.{Bool, true, false}
-use mathlib.Core.List.{List, [], _++_, append-nil}
+use mathlib.Core.List.{List, [], append-nil}
 use Prim.Native.Nat.{ℕ, _+_, _*_, _≤_, _<_}
 use native.Mathlib.Omega.{arith}
 use lib.ListN.{length}
@@ -10,9 +10,8 @@ use borrow.Author.Tests.{le-leb, lt-ltb, le-ltb}
 use Rattle.kinds.specs.declared.Mode.{Mode}
 use Rattle.kinds.proofs.Questions.{ask-yes, ask-no, then-next, number-most}
 use Rattle.trailer.specs.Kinds.{lengthOf, isWide, isRounded}
-use Rattle.trailer.specs.Bytes.{lastFields, endsIn, listKind, trailerBytes, roundingEnd, InRange}
+use Rattle.trailer.specs.Bytes.{lastFields, endsIn, listKind, roundingEnd, InRange}
 use Rattle.trailer.specs.declared.Kind.{Kind}
-use Rattle.trailer.specs.declared.Fields.{Fields}
 use Rattle.trailer.proofs.Layouts.{length-bounds, radius-held}
 use Rattle.trailer.proofs.RoundTrip.{ends-own, last-own}
 use Rattle.cutter.specs.Map.{widthOf, depthOf, stepOf, radiusOf}
@@ -27,12 +26,9 @@ use Rattle.cutter.proofs.Entries.{list-entry}
 use Rattle.reader.specs.Reader.{listTrailer, recordsOf, readerRefusal, recordRefusal}
 
 -- a list whose trailer is of a kind that is found to be what it is
-module _ (k : Kind) (found : (l : List ℕ) (f : Fields) → listKind (l ++ trailerBytes k f) ≡ k) (mode : Mode) (m : List ℕ) {room : ℕ} (a : Accepted m room) where
+module _ (k : Kind) (mode : Mode) (m : List ℕ) (found : listKind (listOf k mode m) ≡ k) {room : ℕ} (a : Accepted m room) where
   abbrev list : List ℕ
   list = listOf k mode m
-
-  pub written-kind : listKind list ≡ k
-  written-kind = rw (list-parts k mode m) (found (allRecords mode m) (listFields k mode m))
 
   -- a rounding that is stated is one of the four
   stated-most : (r : Bool) → statedRounding r mode ≤ 3
@@ -57,15 +53,15 @@ module _ (k : Kind) (found : (l : List ℕ) (f : Fields) → listKind (l ++ trai
   -- the trailer is read back
   pub written-trailer : listTrailer list ≡ listFields k mode m
   written-trailer =
-      ap (λ (k : Kind). lastFields k list) written-kind
+      ap (λ (k : Kind). lastFields k list) found
       ∙ ap (lastFields k) (list-parts k mode m)
       ∙ last-own k (listFields k mode m) (allRecords mode m) in-range
 
   ends : endsIn (listKind list) list ≡ true
-  ends = rw (written-kind, list-parts k mode m) (ends-own k (listFields k mode m) (allRecords mode m))
+  ends = rw (found, list-parts k mode m) (ends-own k (listFields k mode m) (allRecords mode m))
 
   long : length list ≡ 12 * countOf (widthOf m) (depthOf m) + lengthOf (listKind list)
-  long = rw written-kind (length-of-list k mode m)
+  long = rw found (length-of-list k mode m)
 
   -- every question is answered "yes"
   pub written-accepted : readerRefusal list ≡ 0

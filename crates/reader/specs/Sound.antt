@@ -8,7 +8,7 @@ use Rattle.trailer.specs.Bytes.{listKind}
 use Rattle.cutter.specs.Accepted.{Trailed}
 use Rattle.reader.specs.Reader.{listTrailer, recordsOf}
 
--- its trailer is in order, stands behind twelve bytes a record, and states a rounding that there is
+-- its trailer is in order, stands behind twelve bytes a record, and its rounding, 0 in a kind that has none, is one of the four
 pub record Sound (b : List ℕ) : Type 0 where
   pub trailed : Trailed (listKind b) b
   pub long : length b ≡ 12 * recordsOf b + lengthOf (listKind b)

@@ -1,27 +1,27 @@
 -- REQUESTS #101 AND #102, of two calls: whatever the list call wrote, in any rounding, of any map and into any buffer, the record call reads
 -- back with its rounding; document 01's list of the same map too, its rounding unknown. Assumes nothing.
 use mathlib.Core.Path.{_≡_, refl, sym, ap, subst, _∙_}
-use mathlib.Core.Bool.{false}
-use mathlib.Core.List.{List, _++_}
+use mathlib.Core.Bool.{true, false}
+use mathlib.Core.List.{List}
 use Prim.Native.Nat.{ℕ, _≤_, _<_}
 use native.Mathlib.Omega.{arith}
 use lib.ListN.{length, take}
 use Rattle.kinds.specs.Rounding.{modeOf, numberOf}
 use Rattle.kinds.proofs.Questions.{number-back}
 use Rattle.trailer.specs.Kinds.{isRounded}
-use Rattle.trailer.specs.Bytes.{endsIn, listKind, trailerBytes}
+use Rattle.trailer.specs.Bytes.{lastFields, endsIn, listKind}
 use Rattle.trailer.specs.declared.Kind.{Kind}
 use Rattle.trailer.specs.declared.Kind.the-variants.{Cut1, Cut2}
-use Rattle.trailer.specs.declared.Fields.{Fields}
-use Rattle.trailer.proofs.Seeking.{cut1-found, cut2-found, cut2-not-cut1}
+use Rattle.trailer.proofs.Seeking.{kind-first, cut1-found, cut2-found, cut2-not-cut1}
 use Rattle.cutter.specs.Map.{widthOf, depthOf}
-use Rattle.cutter.specs.List.{countOf, allRecords, statedRounding, listFields, listOf, listBytes}
+use Rattle.cutter.specs.List.{countOf, allRecords, statedRounding, listFields, listOf, listBytes, entryAt}
 use Rattle.cutter.specs.Call.{listRefusal}
 use Rattle.cutter.specs.Accepted.{Accepted}
 use Rattle.cutter.proofs.Accepted.{accepted-of, map-asked, rounding-asked}
 use Rattle.cutter.proofs.Lengths.{list-parts}
 use Rattle.cutter.proofs.Entries.{list-held}
-use Rattle.reader.proofs.Written.{written-kind, written-trailer, written-below, written-beyond, written-entry}
+use Rattle.reader.specs.Reader.{recordRefusal}
+use Rattle.reader.proofs.Written.{written-trailer, written-below, written-beyond, written-entry}
 use Rattle.plate.specs.declared.ListReply.{ListReply}
 use Rattle.plate.specs.declared.ListRounding.{ListRounding}
 use Rattle.plate.specs.declared.ListRounding.the-variants.{Unknown, Known}
@@ -31,7 +31,7 @@ use Rattle.theorems.specs.ReadBack.{centreRead, ReadBack}
 
 -- ---- a list with a trailer of a kind that is found
 
-module _ (k : Kind) (found : (l : List ℕ) (f : Fields) → listKind (l ++ trailerBytes k f) ≡ k) (rounding : ℕ) (m : List ℕ) {room : ℕ} (a : Accepted m room) where
+module _ (k : Kind) (rounding : ℕ) (m : List ℕ) (found : listKind (listOf k (modeOf rounding) m) ≡ k) {room : ℕ} (a : Accepted m room) where
   -- what its trailer tells of the rounding
   abbrev told : ListRounding
   told = listRounding (isRounded k) (statedRounding (isRounded k) (modeOf rounding))
@@ -44,17 +44,17 @@ module _ (k : Kind) (found : (l : List ℕ) (f : Fields) → listKind (l ++ trai
   read-each n h =
       let mode = modeOf rounding in
       rw (
-        written-below k found mode m a n h,
-        written-trailer k found mode m a,
-        written-kind k found mode m a,
-        written-entry k found mode m a n 0 h (omega arith),
-        written-entry k found mode m a n 1 h (omega arith),
-        written-entry k found mode m a n 2 h (omega arith),
+        written-below k mode m found a n h,
+        written-trailer k mode m found a,
+        found,
+        written-entry k mode m found a n 0 h (omega arith),
+        written-entry k mode m found a n 1 h (omega arith),
+        written-entry k mode m found a n 2 h (omega arith),
       ) refl
 
   read-beyond : (n : ℕ) → countOf (widthOf m) (depthOf m) ≤ n → recordCall list n ≡ refusedRecord 14
   unfolding recordCall
-  read-beyond n h = rw (written-beyond k found (modeOf rounding) m a n h) refl
+  read-beyond n h = rw (written-beyond k (modeOf rounding) m found a n h) refl
 
   read-all : ReadBack told rounding m list
   read-all = record { each = read-each; beyond = read-beyond }
@@ -73,17 +73,39 @@ module _ (rounding : ℕ) (m before after : List ℕ) (reply : ListReply) (c : L
   pub read-back : ReadBack (Known (record { 0 = rounding })) rounding m (take (reply .length) after)
   read-back =
       let a : Accepted m (length before) = accepted-of m (length before) (map-asked rounding m (length before) asked) in
+      let found : listKind (listBytes (modeOf rounding) m) ≡ Cut2 =
+      rw (list-parts Cut2 (modeOf rounding) m) (cut2-found (allRecords (modeOf rounding) m) (listFields Cut2 (modeOf rounding) m)) in
       let known : numberOf (modeOf rounding) ≡ rounding = number-back rounding (rounding-asked rounding m (length before) asked) in
       subst (λ (n : ℕ). ReadBack (Known (record { 0 = n })) rounding m (take (reply .length) after)) known
-      (rw written (read-all Cut2 cut2-found rounding m a))
+      (rw written (read-all Cut2 rounding m found a))
 
   -- and cannot be taken for CUT1: 16 bytes from its end those letters do not stand
-  pub never-old : endsIn Cut1 (take (reply .length) after) ≡ false
-  never-old = rw (written, list-parts Cut2 (modeOf rounding) m) (cut2-not-cut1 (allRecords (modeOf rounding) m) (listFields Cut2 (modeOf rounding) m))
+  pub never-cut1 : endsIn Cut1 (take (reply .length) after) ≡ false
+  never-cut1 = rw (written, list-parts Cut2 (modeOf rounding) m) (cut2-not-cut1 (allRecords (modeOf rounding) m) (listFields Cut2 (modeOf rounding) m))
 
 -- ---- what was written before
 
 -- document 01's list of a map that the list call accepts is read, every number kept, its rounding unknown
-pub old-read-back : (rounding : ℕ) (m : List ℕ) (room : ℕ) → listRefusal rounding m room ≡ 0
+pub cut1-read-back : (rounding : ℕ) (m : List ℕ) (room : ℕ) → listRefusal rounding m room ≡ 0
     → ReadBack Unknown rounding m (listOf Cut1 (modeOf rounding) m)
-old-read-back rounding m room e = read-all Cut1 cut1-found rounding m (accepted-of m room (map-asked rounding m room e))
+cut1-read-back rounding m room e =
+    read-all Cut1 rounding m
+    (rw (list-parts Cut1 (modeOf rounding) m) (cut1-found (allRecords (modeOf rounding) m) (listFields Cut1 (modeOf rounding) m)))
+    (accepted-of m room (map-asked rounding m room e))
+
+-- and so are any bytes that end in CUT1, whoever wrote them
+pub cut1-read : (b : List ℕ) (index : ℕ) → endsIn Cut1 b ≡ true → recordRefusal b index ≡ 0
+    → recordCall b index
+    ≡ record {
+      refusal = 0;
+      rounding = Unknown;
+      width = lastFields Cut1 b .width;
+      depth = lastFields Cut1 b .depth;
+      step = lastFields Cut1 b .step;
+      radius = lastFields Cut1 b .radius;
+      x = entryAt b index 0;
+      y = entryAt b index 1;
+      z = entryAt b index 2;
+    }
+unfolding recordCall
+cut1-read b index e z = rw (z, sym (kind-first b true (sym e) refl)) refl

@@ -190,6 +190,6 @@ pub fn ends_in(bytes: &[u8], kind: Kind) -> bool
 pub fn list_kind(bytes: &[u8]) -> Kind
     ensures { λ r. ⌜ r ≡ listKind (now (bytes .entry)) ⌝ }
 {
-    let old = ends_in(bytes, Kind::Cut1);
-    if old { Kind::Cut1 } else { Kind::Cut2 }
+    let first = ends_in(bytes, Kind::Cut1);
+    if first { Kind::Cut1 } else { Kind::Cut2 }
 }

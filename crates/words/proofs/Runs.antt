@@ -87,7 +87,7 @@ module _ (f : ℕ → List ℕ) (k : ℕ) (each : (i : ℕ) → length (f i) ≡
       ∙ splice-splice at (joined f i) (f i) l (omega arith)
       ∙ ap (λ (j : ℕ). splice at (joined f j) l) (sym (add-one i))
 
--- runs of k bytes of two sequences that are the same, whatever is behind them, are the same one by one
+-- runs of k bytes of two sequences that are the same together are the same one by one
 pub joined-apart : (f g : ℕ → List ℕ) (k : ℕ) → ((i : ℕ) → length (f i) ≡ k) → ((i : ℕ) → length (g i) ≡ k)
     → (n : ℕ) → joined f n ≡ joined g n → (i : ℕ) → i < n → f i ≡ g i
 joined-apart f g k a b n e i h =

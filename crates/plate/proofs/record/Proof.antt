@@ -1,5 +1,5 @@
 -- `plate::record` meets its contract: the first "no", or what is read. Assumes nothing.
-use Rattle.plate.proofs.Records.{refused, asked, accepted}
+use Rattle.plate.proofs.Records.{refused, accepted}
 use borrow.Author.Needs.{needs}
 use Rattle.plate.proofs.record.Statement.{statement}
 use Rattle.plate.proofs.record.Tie as tie
@@ -14,7 +14,7 @@ returns : tie.Need-returns
 returns c = search refused
 
 read-record-requires : tie.Need-read-record-requires
-read-record-requires c κs = search asked
+read-record-requires c κs = search needs
 
 returns-2 : tie.Need-returns-2
 returns-2 c = search accepted
