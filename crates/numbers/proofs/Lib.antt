@@ -1,8 +1,10 @@
+pub mod Differences
 pub mod Exponents
 pub mod Bits
 pub mod Greatest
 pub mod Powers
 pub mod Products
 pub mod Ring
+pub mod Signed
 pub mod SquareRoot
 pub mod Squares

@@ -1,6 +1,7 @@
 -- What the parts of the raw code hand to each other, at k = 7 and t = 3. Assumes nothing.
 use mathlib.Core.Path.{_≡_}
 use Prim.Native.Nat.{ℕ, _*_, _<_, _^_}
+use lib.IntN.{pos}
 use Rattle.significand.specs.Width.{k32, t32}
 use Rattle.significand.specs.Steps.{signOf, reducedOf, digit2, digit3, carryOf}
 use Rattle.series.specs.declared.Reduction.{Reduction}
@@ -12,11 +13,9 @@ pub record Reduced (u : ℕ) (d : Reduction) : Type 0 where
   pub magnitude : d .magnitude ≡ reducedOf k32 t32 u
   pub small : d .magnitude < 2 ^ 21
 
--- the products of digits in the three sums: a2², a2·a3 and h·a2
-pub record Products (a : ℕ) (t : Terms) : Type 0 where
-  pub square : t .square ≡ digit2 k32 a * digit2 k32 a
-  pub cross : t .cross ≡ digit2 k32 a * digit3 k32 a
-  pub cube : t .cube ≡ carryOf k32 (digit2 k32 a) * digit2 k32 a
-  pub square-small : t .square < 2 ^ 14
-  pub cross-small : t .cross < 2 ^ 14
-  pub cube-small : t .cube < 2 ^ 14
+-- what the three sums are made of: a, a2², a2·a3 and h·a2, as signed numbers
+pub record TermsOf (a : ℕ) (t : Terms) : Type 0 where
+  pub linear : t .linear ≡ pos a
+  pub square : t .square ≡ pos (digit2 k32 a * digit2 k32 a)
+  pub cross : t .cross ≡ pos (digit2 k32 a * digit3 k32 a)
+  pub cube : t .cube ≡ pos (carryOf k32 (digit2 k32 a) * digit2 k32 a)

@@ -3,8 +3,8 @@ ghost use mathlib.Core.Path.{_≡_};
 ghost use Prim.Native.Nat.{_+_, _*_, _/_, _≤_, _<_, _^_};
 ghost use Rattle.kinds.specs.declared.Op.the-variants.{Reciprocal, Root, InverseRoot};
 ghost use Rattle.significand.specs.Width.{k32, t32, Significand};
-ghost use Rattle.significand.specs.Steps.{plus as Steps·plus, less as Steps·less, factorOf, reducedOf, seriesOf};
-ghost use Rattle.series.specs.Parts.{Reduced, Products};
+ghost use Rattle.significand.specs.Steps.{unit as Steps·unit, factorOf, reducedOf, seriesOf};
+ghost use Rattle.series.specs.Parts.{Reduced, TermsOf};
 
 // The sign and the magnitude of a reduction.
 pub struct Reduction {
@@ -35,24 +35,33 @@ fn magnitude(u: u64) -> u64
     }
 }
 
-// Products of the 7-bit digits of a reduction: a2², a2·a3 and h·a2.
-struct Terms {
-    square: u64,
-    cross: u64,
-    cube: u64,
+// The sign s, +1 or −1.
+fn unit(positive: bool) -> i64
+    ensures { λ r. ⌜ r ≡ Steps·unit positive ⌝ }
+{
+    if positive { 1 } else { -1 }
 }
 
-fn products(a: u64) -> Terms
+// What the three sums are made of: a, and of its 7-bit digits a2², a2·a3 and h·a2.
+struct Terms {
+    linear: i64,
+    square: i64,
+    cross: i64,
+    cube: i64,
+}
+
+fn terms_of(a: u64) -> Terms
     requires { ⌜ a < 2 ^ 21 ⌝ }
-    ensures { λ r. ⌜ Products a r ⌝ }
+    ensures { λ r. ⌜ TermsOf a r ⌝ }
 {
     let a2 = a / 16384;
     let a3 = a / 128 % 128;
     let square = product(a2, a2);
     Terms {
-        square,
-        cross: product(a2, a3),
-        cube: product(square / 128, a2),
+        linear: a as i64,
+        square: square as i64,
+        cross: product(a2, a3) as i64,
+        cube: product(square / 128, a2) as i64,
     }
 }
 
@@ -64,46 +73,33 @@ fn product(a: u64, b: u64) -> u64
     a * b
 }
 
-// x + s·y.
-fn plus(positive: bool, x: u64, y: u64) -> u64
-    requires { ⌜ (y ≤ x) × (x < 2 ^ 62) ⌝ }
-    ensures { λ r. ⌜ (r ≡ Steps·plus positive x y) × (r ≤ x + y) × (x ≤ r + y) ⌝ }
-{
-    if positive { x + y } else { x - y }
-}
-
-// x − s·y.
-fn less(positive: bool, x: u64, y: u64) -> u64
-    requires { ⌜ (y ≤ x) × (x < 2 ^ 62) ⌝ }
-    ensures { λ r. ⌜ (r ≡ Steps·less positive x y) × (r ≤ x + y) × (x ≤ r + y) ⌝ }
-{
-    if positive { x - y } else { x + y }
-}
-
-// Step 3, the series b of each operation.
+// Step 3, the series b of each operation: its sum, in the order in which document 01 prints it, and one floored division.
 pub fn reciprocal_series(positive: bool, a: u64) -> u64
     requires { ⌜ a < 2 ^ 21 ⌝ }
     ensures { λ r. ⌜ (r ≡ seriesOf k32 Reciprocal positive a) × (r < 2 ^ 29) ⌝ }
 {
-    let t = products(a);
-    let first = less(positive, 268435456, a);
-    less(positive, 128 * (first + t.square) + 2 * t.cross, t.cube) / 128
+    let s = unit(positive);
+    let t = terms_of(a);
+    let sum = 128 * (268435456 - s * t.linear + t.square) + 2 * t.cross - s * t.cube;
+    sum as u64 / 128
 }
 
 pub fn root_series(positive: bool, a: u64) -> u64
     requires { ⌜ a < 2 ^ 21 ⌝ }
     ensures { λ r. ⌜ (r ≡ seriesOf k32 Root positive a) × (r < 2 ^ 29) ⌝ }
 {
-    let t = products(a);
-    let first = plus(positive, 549755813888, 1024 * a);
-    plus(positive, first - 256 * t.square - 4 * t.cross, t.cube) / 2048
+    let s = unit(positive);
+    let t = terms_of(a);
+    let sum = 549755813888 + 1024 * s * t.linear - 256 * t.square - 4 * t.cross + s * t.cube;
+    sum as u64 / 2048
 }
 
 pub fn inverse_root_series(positive: bool, a: u64) -> u64
     requires { ⌜ a < 2 ^ 21 ⌝ }
     ensures { λ r. ⌜ (r ≡ seriesOf k32 InverseRoot positive a) × (r < 2 ^ 29) ⌝ }
 {
-    let t = products(a);
-    let even = 549755813888 + 768 * t.square + 12 * t.cross;
-    less(positive, even, 1024 * a + 5 * t.cube) / 2048
+    let s = unit(positive);
+    let t = terms_of(a);
+    let sum = 549755813888 - 1024 * s * t.linear + 768 * t.square + 12 * t.cross - 5 * s * t.cube;
+    sum as u64 / 2048
 }

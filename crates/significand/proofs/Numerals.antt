@@ -1,13 +1,17 @@
 -- The numbered steps in the numbers of k = 7 and t = 3, as code and tables have them. Assumes nothing.
 use mathlib.Core.Path.{_≡_, refl, sym}
 use mathlib.Core.Bool.{Bool}
-use Prim.Native.Nat.{ℕ, _+_, _-_, _*_, _/_, _^_}
+use Prim.Native.Nat.{ℕ, _+_, _-_, _*_, _/_, _^_, _<_}
+use native.Mathlib.Omega.{arith}
 use lib.Dec.{T, eqb, leb, eqb→eq}
 use Rattle.kinds.specs.declared.Op.{Op}
 use Rattle.kinds.specs.declared.Op.the-variants.{Reciprocal, Root, InverseRoot}
 use Rattle.numbers.proofs.SquareRoot.{squareTight, square-tight}
 use Rattle.significand.specs.Width.{k32, t32}
-use Rattle.significand.specs.Steps.{plus, less, apart, digit2, digit3, carryOf, indexOf, factorOf, signOf, reducedOf, sumOf, seriesOf, multiplierOf, rawOf}
+use Rattle.significand.specs.Steps.{indexOf, factorOf, signOf, reducedOf, sumOf, seriesOf, multiplierOf, rawOf}
+use Rattle.significand.specs.Printed.{Sums, Printed}
+use Rattle.significand.proofs.Reduction.{sign-by, reduced-by}
+use Rattle.significand.proofs.Sums.{sums}
 
 -- 1. the index and R, whose table's test is over i and the entry
 pub index-is : (y : ℕ) → indexOf k32 t32 y ≡ y / 65536
@@ -23,29 +27,20 @@ factor-entry i w t = eqb→eq w (32768 / i) t
 
 -- 2. the sign and a of u = y × R
 pub sign-is : (u : ℕ) → leb 2147483648 u ≡ signOf k32 t32 u
-unfolding signOf
-sign-is u = refl
+sign-is u = sym (sign-by k32 t32 u)
 
-pub reduced-is : (u : ℕ) → apart u 2147483648 / 8 ≡ reducedOf k32 t32 u
-unfolding reducedOf
-reduced-is u = refl
+pub reduced-is : (u : ℕ) → ((u - 2147483648) + (2147483648 - u)) / 8 ≡ reducedOf k32 t32 u
+reduced-is u = sym (reduced-by k32 t32 u)
 
--- 3. the sums, a2 and a3 being digits and h the carry
-module _ (s : Bool) (a : ℕ) where
-  pub reciprocal-sum : sumOf k32 Reciprocal s a
-      ≡ less s (128 * (less s 268435456 a + digit2 k32 a * digit2 k32 a) + 2 * digit2 k32 a * digit3 k32 a) (carryOf k32 (digit2 k32 a) * digit2 k32 a)
-  unfolding sumOf
-  reciprocal-sum = refl
-
-  pub root-sum : sumOf k32 Root s a
-      ≡ plus s (plus s 549755813888 (1024 * a) - 256 * digit2 k32 a * digit2 k32 a - 4 * digit2 k32 a * digit3 k32 a) (carryOf k32 (digit2 k32 a) * digit2 k32 a)
-  unfolding sumOf
-  root-sum = refl
-
-  pub inverse-root-sum : sumOf k32 InverseRoot s a
-      ≡ less s (less s 549755813888 (1024 * a) + 768 * digit2 k32 a * digit2 k32 a + 12 * digit2 k32 a * digit3 k32 a) (5 * carryOf k32 (digit2 k32 a) * digit2 k32 a)
-  unfolding sumOf
-  inverse-root-sum = refl
+-- 3. the sums, of every a of 21 bits
+pub printed-sums : (op : Op) (a : ℕ) → a < 2 ^ 21 → Printed op a
+unfolding sumOf
+printed-sums op a h = go op (sums k32 a (omega arith) h op)
+  where
+    go : (op : Op) → Sums k32 op a → Printed op a
+    go Reciprocal s = record { sum = λ positive. refl; not-negative = s .not-negative; both-signs = s .both-signs }
+    go Root s = record { sum = λ positive. refl; not-negative = s .not-negative; both-signs = s .both-signs }
+    go InverseRoot s = record { sum = λ positive. refl; not-negative = s .not-negative; both-signs = s .both-signs }
 
 -- 4. M: for the reciprocal R × 2^20; for the roots a table, whose test is over the parity, i and the entry
 pub reciprocal-multiplier : (r p : ℕ) → multiplierOf k32 Reciprocal r p ≡ r * 1048576

@@ -1,5 +1,5 @@
 -- Steps 1 and 2: the index i, the factor R, and the reduction of y R to N ± a, where a has three digits. Assumes nothing.
-use mathlib.Core.Path.{_≡_, refl, ap}
+use mathlib.Core.Path.{_≡_, refl, ap, _∙_}
 use mathlib.Core.Bool.{Bool, true, false}
 use mathlib.Core.List.{[], _∷_}
 use Prim.Native.Nat.{ℕ, _+_, _*_, _-_, _/_, _^_, _≤_, _<_}
@@ -7,7 +7,10 @@ use native.Mathlib.Nat.{mul-div-le, lt-mul-div-succ, div-mul-le-self, lt-div-mul
 use native.Mathlib.Omega.{arith}
 use lib.Pow.{pow-pos, pow-mono}
 use lib.Dec.{leb}
+use lib.IntN.{natAbs}
+use lib.Signed.{nonNeg}
 use borrow.Author.Tests.{leb-true, leb-false}
+use Rattle.numbers.proofs.Differences.{pos-less, diff-sign, diff-abs}
 use Rattle.numbers.proofs.Ring.{E, v, #, _⊕_, _⊗_, _⊙_⊑_, nlin}
 use Rattle.numbers.proofs.Exponents.{power-of}
 use Rattle.significand.specs.Steps.{indexOf, factorOf, signOf, reducedOf}
@@ -91,6 +94,19 @@ module _ (Z T y i R w : ℕ) (I : Indexed Z T y i R w) where
       ∷ [])
       (T′ ⊗ (Z′ ⊗ Z′ ⊗ Z′ ⊗ Z′) ⊕ # 2 ⊗ w′) (y′ ⊗ R′ ⊕ T′ ⊗ (Z′ ⊗ Z′ ⊗ Z′)) tt (omega arith)
 
+-- the sign and a of u by its order beside C, which is 2^(4k + t)
+module _ (k t u : ℕ) where
+  abbrev C : ℕ
+  C = 2 ^ (4 * k + t)
+
+  pub sign-by : signOf k t u ≡ leb C u
+  unfolding signOf
+  sign-by = ap nonNeg (pos-less u C) ∙ diff-sign u C
+
+  pub reduced-by : reducedOf k t u ≡ ((u - C) + (C - u)) / 2 ^ t
+  unfolding reducedOf
+  reduced-by = ap (λ (n : ℕ). n / 2 ^ t) (ap natAbs (pos-less u C) ∙ diff-abs u C)
+
 -- what u / T is close to: N + a, or N − a − 1
 abbrev pub scaledOf : Bool → ℕ → ℕ → ℕ
 scaledOf true N a = N + a
@@ -173,12 +189,10 @@ module _ (k t y : ℕ) (h : 7 ≤ k) (Y : Significand k t y) where
 
   -- a has three digits
   pub reduced-small : reducedOf k t (y * r) < 2 ^ (3 * k)
-  unfolding reducedOf
-  reduced-small = rw scale (reduced-below (2 ^ (4 * k)) (2 ^ (3 * k)) (2 ^ t) (y * r) (pow-pos t) low high)
+  reduced-small = rw (reduced-by, scale) (reduced-below (2 ^ (4 * k)) (2 ^ (3 * k)) (2 ^ t) (y * r) (pow-pos t) low high)
 
   -- and y R is T (N + a) or T (N − a), but for less than T
   pub reduced : Reduced (signOf k t (y * r)) (2 ^ (4 * k)) (2 ^ t) (y * r) (reducedOf k t (y * r))
-  unfolding reducedOf signOf
   reduced =
-      rw scale
+      rw (sign-by, reduced-by, scale)
       (reduced-at (2 ^ (4 * k)) (2 ^ (3 * k)) (2 ^ t) (y * r) (pow-pos t) low high (leb (2 ^ t * 2 ^ (4 * k)) (y * r)) refl (pow-mono (omega arith)))

@@ -1,15 +1,21 @@
--- Step 3: the digits of a, and the sums, in which no subtraction cuts anything off. Assumes nothing.
-use mathlib.Core.Path.{_≡_, ap, _∙_}
-use mathlib.Core.Bool.{Bool, true, false}
+-- Step 3: the digits of a, and the sums: each is what it adds less what it takes away, and is not negative; those of both signs add up to
+-- twice the terms without s. Assumes nothing.
+use mathlib.Core.Path.{_≡_, sym, ap, _∙_}
+use mathlib.Core.Bool.{Bool, true, false, cond}
 use mathlib.Core.List.{[]}
-use Prim.Native.Nat.{ℕ, _+_, _*_, _-_, _/_, _^_, _≤_, _<_}
+use Prim.Native.Nat.{ℕ, zero, suc, _+_, _*_, _-_, _/_, _^_, _≤_, _<_, zero-le}
 use native.Mathlib.Nat.{mul-div-le, lt-mul-div-succ, div-add-mod', mod-lt, le-of-mul-le-mul-left}
 use native.Mathlib.Omega.{arith}
+use lib.IntN.{ℤ, pos, negsuc, negℤ, natAbs, subℕ, _+ℤ_, _-ℤ_, _*ℤ_}
+use lib.Signed.{_≤ℤ_, leZ-yes}
+use lib.Dec.{le→leb}
 use lib.Pow.{pow-pos, pow-mono, shr-lt, shr-shr}
 use Rattle.kinds.specs.declared.Op.{Op}
 use Rattle.kinds.specs.declared.Op.the-variants.{Reciprocal, Root, InverseRoot}
+use Rattle.numbers.proofs.Differences.{diff-le, diff-eq, diff-pos, neg-pos, diff-add, diff-sub, diff-more, diff-less, more-diff, less-diff, diff-times, pos-less}
 use Rattle.numbers.proofs.Ring.{E, #, _⊕_, _⊗_, ev}
-use Rattle.significand.specs.Steps.{digit2, digit3, digit4, carryOf, sumOver, sumOf, divisorOf, seriesOf}
+use Rattle.significand.specs.Steps.{digit2, digit3, digit4, carryOf, unit, sumOver, sumOf, divisorOf, seriesOf}
+use Rattle.significand.specs.Printed.{Sums, unsignedOver}
 use Rattle.significand.proofs.Series.{Point, env, z, q, w, n, gains, losses, divisor, rise, fall, Digits, Summed, Passes, by-tops}
 use Rattle.significand.proofs.Scale.{radix-big, whole-is}
 use Rattle.significand.proofs.Reduction.{scaledOf}
@@ -25,7 +31,7 @@ pointOf k op sign a =
       h = carryOf k (digit2 k a);
       b = seriesOf k op sign a;
       W = scaledOf sign (2 ^ (4 * k)) a;
-      S = sumOf k op sign a;
+      S = natAbs (sumOf k op (unit sign) a);
     }
 
 -- a is its three digits
@@ -51,13 +57,49 @@ module _ (k a : ℕ) where
         carry-high = omega (arith, lt-mul-div-succ (digit2 k a * digit2 k a) (pow-pos k));
       }
 
--- what a sum takes away is no more than its first term
-abbrev first : Op → E
-first Reciprocal = z ⊗ n
-first Root = # 16 ⊗ z ⊗ n
-first InverseRoot = # 16 ⊗ z ⊗ n
+-- s times a number
+times-unit : (positive : Bool) (n : ℕ) → unit positive *ℤ pos n ≡ subℕ (cond positive n 0) (cond positive 0 n)
+times-unit true n = diff-pos (1 * n) ∙ diff-eq (1 * n) 0 n 0 (omega arith)
+times-unit false n = neg-pos (1 * n) ∙ diff-eq 0 (1 * n) 0 n (omega arith)
 
-covered : (op : Op) (sign : Bool) → Passes (# 1) [] (losses op sign) (first op)
+-- and a number times s times a number
+scaled-unit : (positive : Bool) (m n : ℕ) → pos m *ℤ unit positive *ℤ pos n ≡ subℕ (cond positive (m * n) 0) (cond positive 0 (m * n))
+scaled-unit true m n = diff-pos (m * 1 * n) ∙ diff-eq (m * 1 * n) 0 (m * n) 0 (omega arith)
+scaled-unit false zero n = diff-pos (0 * n) ∙ diff-eq (0 * n) 0 0 (0 * n) (omega arith)
+scaled-unit false (suc m) n =
+    let e : suc m * 1 ≡ suc m = omega arith in
+    ap (λ (x : ℕ). negℤ (pos x) *ℤ pos n) e ∙ neg-pos (suc m * n)
+
+zero-least : (n : ℕ) → pos 0 ≤ℤ pos n
+zero-least n = leZ-yes (le→leb 0 n zero-le)
+
+-- each sum as the difference of what it adds and what it takes away
+module _ (k a a2 a3 h : ℕ) where
+  module _ (sign : Bool) where
+    abbrev up : ℕ → ℕ
+    up n = cond sign n 0
+
+    abbrev down : ℕ → ℕ
+    down n = cond sign 0 n
+
+    added : Op → ℕ
+    added Reciprocal = 2 ^ k * (2 ^ (4 * k) + down a + a2 * a2) + 2 * a2 * a3 + down (h * a2)
+    added Root = 16 * 2 ^ k * 2 ^ (4 * k) + up (8 * 2 ^ k * a) + up (h * a2)
+    added InverseRoot = 16 * 2 ^ k * 2 ^ (4 * k) + down (8 * 2 ^ k * a) + 6 * 2 ^ k * a2 * a2 + 12 * a2 * a3 + down (5 * (h * a2))
+
+    taken : Op → ℕ
+    taken Reciprocal = 2 ^ k * up a + up (h * a2)
+    taken Root = down (8 * 2 ^ k * a) + 2 * 2 ^ k * a2 * a2 + 4 * a2 * a3 + down (h * a2)
+    taken InverseRoot = up (8 * 2 ^ k * a) + up (5 * (h * a2))
+
+    difference : (op : Op) → sumOver k op (unit sign) a a2 a3 h ≡ subℕ (added op) (taken op)
+    unfolding added taken
+    difference Reciprocal = rw (times-unit sign a, times-unit sign (h * a2), less-diff, diff-more, diff-times, diff-more, diff-sub)
+    difference Root = rw (scaled-unit sign (8 * 2 ^ k) a, times-unit sign (h * a2), more-diff, diff-less, diff-less, diff-add)
+    difference InverseRoot = rw (scaled-unit sign (8 * 2 ^ k) a, scaled-unit sign 5 (h * a2), less-diff, diff-more, diff-more, diff-sub)
+
+-- what a sum takes away is no more than what it adds
+covered : (op : Op) (sign : Bool) → Passes (# 1) [] (losses op sign) (gains op sign)
 covered Reciprocal true = tt
 covered Reciprocal false = tt
 covered Root true = tt
@@ -70,8 +112,8 @@ module _ (k a a2 a3 a4 h b W S : ℕ) where
   P = record { Z = 2 ^ k; a2 = a2; a3 = a3; a4 = a4; h = h; b = b; W = W; S = S }
 
   module _ (D : Digits P) (is : a ≡ a2 * 2 ^ k * 2 ^ k + a3 * 2 ^ k + a4) where
-    fits : (op : Op) (sign : Bool) → ev (env P) (losses op sign) ≤ ev (env P) (first op)
-    fits op sign = by-tops P D (# 1) [] (losses op sign) (first op) (covered op sign) (omega arith) tt
+    fits : (op : Op) (sign : Bool) → ev (env P) (losses op sign) ≤ ev (env P) (gains op sign)
+    fits op sign = by-tops P D (# 1) [] (losses op sign) (gains op sign) (covered op sign) (omega arith) tt
 
     -- Z a and Z N
     scaled-a : 2 ^ k * a ≡ 2 ^ k * (a2 * 2 ^ k * 2 ^ k + a3 * 2 ^ k + a4)
@@ -80,19 +122,54 @@ module _ (k a a2 a3 a4 h b W S : ℕ) where
     scaled-n : 2 ^ k * 2 ^ (4 * k) ≡ 2 ^ k * (2 ^ k * 2 ^ k * 2 ^ k * 2 ^ k)
     scaled-n = ap (λ (m : ℕ). 2 ^ k * m) (whole-is k)
 
-    added-up : (op : Op) (sign : Bool) → sumOver k op sign a a2 a3 h + ev (env P) (losses op sign) ≡ ev (env P) (gains op sign)
-    added-up Reciprocal true =
-        let most : a ≤ 2 ^ (4 * k) = le-of-mul-le-mul-left (omega (arith, fits Reciprocal true, scaled-a, scaled-n)) (pow-pos k) in
-        go (2 ^ (4 * k) - a) (omega arith)
-      where
-        go : (d : ℕ) → d + a ≡ 2 ^ (4 * k)
-            → 2 ^ k * (d + a2 * a2) + 2 * a2 * a3 - h * a2 + ev (env P) (losses Reciprocal true) ≡ ev (env P) (gains Reciprocal true)
-        go d e = omega (arith, fits Reciprocal true, scaled-a, scaled-n, ap (λ (m : ℕ). 2 ^ k * m) e)
-    added-up Reciprocal false = omega (arith, scaled-a, scaled-n)
-    added-up Root true = omega (arith, fits Root true, scaled-a, scaled-n)
-    added-up Root false = omega (arith, fits Root false, scaled-a, scaled-n)
-    added-up InverseRoot true = omega (arith, fits InverseRoot true, scaled-a, scaled-n)
-    added-up InverseRoot false = omega (arith, scaled-a, scaled-n)
+    -- it adds and takes away what the polynomials say
+    balanced : (op : Op) (sign : Bool)
+        → added k a a2 a3 h sign op + ev (env P) (losses op sign) ≡ ev (env P) (gains op sign) + taken k a a2 a3 h sign op
+    unfolding added taken
+    balanced Reciprocal true = omega (arith, scaled-a, scaled-n)
+    balanced Reciprocal false = omega (arith, scaled-a, scaled-n)
+    balanced Root true = omega (arith, scaled-a, scaled-n)
+    balanced Root false = omega (arith, scaled-a, scaled-n)
+    balanced InverseRoot true = omega (arith, scaled-a, scaled-n)
+    balanced InverseRoot false = omega (arith, scaled-a, scaled-n)
+
+    whole-sum : (op : Op) (sign : Bool) → sumOver k op (unit sign) a a2 a3 h ≡ pos (ev (env P) (gains op sign) - ev (env P) (losses op sign))
+    whole-sum op sign =
+        difference k a a2 a3 h sign op
+        ∙ diff-eq (added k a a2 a3 h sign op) (taken k a a2 a3 h sign op) (ev (env P) (gains op sign)) (ev (env P) (losses op sign)) (balanced op sign)
+        ∙ diff-le (ev (env P) (gains op sign)) (ev (env P) (losses op sign)) (fits op sign)
+
+-- the terms without s, as such a difference, and the sums of both signs
+module _ (k a2 a3 : ℕ) where
+  kept : Op → ℕ
+  kept Reciprocal = 2 ^ k * (2 ^ (4 * k) + a2 * a2) + 2 * a2 * a3
+  kept Root = 16 * 2 ^ k * 2 ^ (4 * k)
+  kept InverseRoot = 16 * 2 ^ k * 2 ^ (4 * k) + 6 * 2 ^ k * a2 * a2 + 12 * a2 * a3
+
+  left-out : Op → ℕ
+  left-out Reciprocal = 0
+  left-out Root = 2 * 2 ^ k * a2 * a2 + 4 * a2 * a3
+  left-out InverseRoot = 0
+
+  unsigned-difference : (op : Op) → unsignedOver k op a2 a3 ≡ subℕ (kept op) (left-out op)
+  unfolding kept left-out
+  unsigned-difference Reciprocal = diff-pos (kept Reciprocal)
+  unsigned-difference Root = rw (pos-less, diff-less)
+  unsigned-difference InverseRoot = diff-pos (kept InverseRoot)
+
+  module _ (a h : ℕ) where
+    twice : (op : Op)
+        → added k a a2 a3 h true op + added k a a2 a3 h false op + 2 * left-out op
+        ≡ 2 * kept op + (taken k a a2 a3 h true op + taken k a a2 a3 h false op)
+    unfolding added taken kept left-out
+    twice Reciprocal = omega arith
+    twice Root = omega arith
+    twice InverseRoot = omega arith
+
+    both : (op : Op) → sumOver k op (unit true) a a2 a3 h +ℤ sumOver k op (unit false) a a2 a3 h ≡ pos 2 *ℤ unsignedOver k op a2 a3
+    both op =
+        rw (difference k a a2 a3 h true op, difference k a a2 a3 h false op, diff-add, unsigned-difference, diff-times)
+        (diff-eq _ _ (2 * kept op) (2 * left-out op) (twice op))
 
 -- b is the sum over its divisor, floored
 module _ (k a2 a3 a4 h W S : ℕ) where
@@ -110,12 +187,33 @@ module _ (k a2 a3 a4 h W S : ℕ) where
   floor-high InverseRoot = omega (arith, lt-mul-div-succ S {b = 16 * 2 ^ k} (omega (arith, pow-pos k)))
 
 module _ (k a : ℕ) (h : 7 ≤ k) (below : a < 2 ^ (3 * k)) (op : Op) where
-  -- A sum, and what it takes away, are together what it adds: no subtraction in it has cut anything off.
-  pub uncut : (sign : Bool) → let P : Point = pointOf k op sign a in sumOf k op sign a + ev (env P) (losses op sign) ≡ ev (env P) (gains op sign)
+  module _ (sign : Bool) where
+    abbrev Q : Point
+    Q = pointOf k op sign a
+
+    -- what a sum takes away is no more than what it adds, and the sum is the rest
+    fit : ev (env Q) (losses op sign) ≤ ev (env Q) (gains op sign)
+    fit =
+        fits k a (digit2 k a) (digit3 k a) (digit4 k a) (carryOf k (digit2 k a)) (Q .b) (Q .W) (Q .S) (digits-below k a h below op sign) (digits-are k a) op
+        sign
+
+    rest : sumOf k op (unit sign) a ≡ pos (ev (env Q) (gains op sign) - ev (env Q) (losses op sign))
+    unfolding sumOf
+    rest =
+        whole-sum k a (digit2 k a) (digit3 k a) (digit4 k a) (carryOf k (digit2 k a)) (Q .b) (Q .W) (Q .S) (digits-below k a h below op sign)
+        (digits-are k a) op sign
+
+    -- so it is not negative
+    not-negative : pos 0 ≤ℤ sumOf k op (unit sign) a
+    not-negative = rw rest (zero-least (ev (env Q) (gains op sign) - ev (env Q) (losses op sign)))
+
+    uncut : natAbs (sumOf k op (unit sign) a) + ev (env Q) (losses op sign) ≡ ev (env Q) (gains op sign)
+    uncut = omega (arith, ap natAbs rest, fit)
+
+  -- what is promised of the sums
+  pub sums : Sums k op a
   unfolding sumOf
-  uncut sign =
-      added-up k a (digit2 k a) (digit3 k a) (digit4 k a) (carryOf k (digit2 k a)) (seriesOf k op sign a) (scaledOf sign (2 ^ (4 * k)) a)
-      (sumOf k op sign a) (digits-below k a h below op sign) (digits-are k a) op sign
+  sums = record { not-negative = not-negative; both-signs = both k (digit2 k a) (digit3 k a) a (carryOf k (digit2 k a)) op }
 
   -- W is N + a or N − a − 1
   scaled-is : (sign : Bool) → let P : Point = pointOf k op sign a in ev (env P) (w ⊕ fall sign) ≡ ev (env P) (n ⊕ rise sign)
@@ -125,7 +223,7 @@ module _ (k a : ℕ) (h : 7 ≤ k) (below : a < 2 ^ (3 * k)) (op : Op) where
   pub summed : (sign : Bool) → Summed op sign (pointOf k op sign a)
   summed sign =
       let W : ℕ = scaledOf sign (2 ^ (4 * k)) a in
-      let S : ℕ = sumOf k op sign a in
+      let S : ℕ = natAbs (sumOf k op (unit sign) a) in
       record {
         digits = digits-below k a h below op sign;
         sum = uncut sign;

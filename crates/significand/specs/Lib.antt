@@ -1,5 +1,6 @@
 pub mod Width
 pub mod Steps
+pub mod Printed
 pub mod Call
 pub mod Distance
 pub mod Rows

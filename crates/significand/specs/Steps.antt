@@ -3,22 +3,11 @@
 use Prim.Native.Nat.{ℕ, _+_, _*_, _-_, _/_, _%_, _^_}
 use mathlib.Core.Bool.{Bool, true, false}
 use lib.Dec.{leb}
+use lib.IntN.{ℤ, pos, negsuc, natAbs, _+ℤ_, _-ℤ_, _*ℤ_}
+use lib.Signed.{nonNeg}
 use Rattle.kinds.specs.declared.Op.{Op}
 use Rattle.kinds.specs.declared.Op.the-variants.{Reciprocal, Root, InverseRoot}
 use Rattle.numbers.specs.Greatest.{greatest}
-
--- x + s·y and x − s·y, the sign s being +1 where the Bool is true and −1 where it is false
-abbrev pub plus : Bool → ℕ → ℕ → ℕ
-plus true x y = x + y
-plus false x y = x - y
-
-abbrev pub less : Bool → ℕ → ℕ → ℕ
-less true x y = x - y
-less false x y = x + y
-
--- how far apart two numbers are
-abbrev pub apart : ℕ → ℕ → ℕ
-apart a b = (a - b) + (b - a)
 
 -- 1. i is y over 2^(2k + t − 1), floored [2^16]; R is 2^(2k + 1) over i, floored [32,768]
 unfoldable pub indexOf : ℕ → ℕ → ℕ → ℕ
@@ -27,13 +16,22 @@ indexOf k t y = y / 2 ^ (2 * k + t - 1)
 unfoldable pub factorOf : ℕ → ℕ → ℕ
 factorOf k i = 2 ^ (2 * k + 1) / i
 
--- 2. d is y × R − 2^(4k + t) [2^31]: here u is y × R. Whether its sign s is +1
+-- 2. d is y × R − 2^(4k + t) [2^31]: here u is y × R
+abbrev pub differenceOf : ℕ → ℕ → ℕ → ℤ
+differenceOf k t u = pos u -ℤ pos (2 ^ (4 * k + t))
+
+-- whether the sign s of d is +1, as it is for d = 0
 unfoldable pub signOf : ℕ → ℕ → ℕ → Bool
-signOf k t u = leb (2 ^ (4 * k + t)) u
+signOf k t u = nonNeg (differenceOf k t u)
+
+-- s itself, the whole number +1 or −1
+abbrev pub unit : Bool → ℤ
+unit true = pos 1
+unit false = negsuc 0
 
 -- a is |d| over 2^t, floored [8]
 unfoldable pub reducedOf : ℕ → ℕ → ℕ → ℕ
-reducedOf k t u = apart u (2 ^ (4 * k + t)) / 2 ^ t
+reducedOf k t u = natAbs (differenceOf k t u) / 2 ^ t
 
 -- the k-bit digits of a, highest first, and h, which is a2² over 2^k, floored
 abbrev pub digit2 : ℕ → ℕ → ℕ
@@ -49,15 +47,15 @@ abbrev pub carryOf : ℕ → ℕ → ℕ
 carryOf k a2 = a2 * a2 / 2 ^ k
 
 -- 3. the sum of each series, over the sign s, a, a2, a3 and h, before its division
-abbrev pub sumOver : ℕ → Op → Bool → ℕ → ℕ → ℕ → ℕ → ℕ
+abbrev pub sumOver : ℕ → Op → ℤ → ℕ → ℕ → ℕ → ℕ → ℤ
 sumOver k Reciprocal s a a2 a3 h =
-    less s (2 ^ k * (less s (2 ^ (4 * k)) a + a2 * a2) + 2 * a2 * a3) (h * a2)
+    pos (2 ^ k) *ℤ (pos (2 ^ (4 * k)) -ℤ s *ℤ pos a +ℤ pos (a2 * a2)) +ℤ pos (2 * a2 * a3) -ℤ s *ℤ pos (h * a2)
 sumOver k Root s a a2 a3 h =
-    plus s (plus s (16 * 2 ^ k * 2 ^ (4 * k)) (8 * 2 ^ k * a) - 2 * 2 ^ k * a2 * a2 - 4 * a2 * a3) (h * a2)
+    pos (16 * 2 ^ k * 2 ^ (4 * k)) +ℤ pos (8 * 2 ^ k) *ℤ s *ℤ pos a -ℤ pos (2 * 2 ^ k * a2 * a2) -ℤ pos (4 * a2 * a3) +ℤ s *ℤ pos (h * a2)
 sumOver k InverseRoot s a a2 a3 h =
-    less s (less s (16 * 2 ^ k * 2 ^ (4 * k)) (8 * 2 ^ k * a) + 6 * 2 ^ k * a2 * a2 + 12 * a2 * a3) (5 * h * a2)
+    pos (16 * 2 ^ k * 2 ^ (4 * k)) -ℤ pos (8 * 2 ^ k) *ℤ s *ℤ pos a +ℤ pos (6 * 2 ^ k * a2 * a2) +ℤ pos (12 * a2 * a3) -ℤ pos 5 *ℤ s *ℤ pos (h * a2)
 
-unfoldable pub sumOf : ℕ → Op → Bool → ℕ → ℕ
+unfoldable pub sumOf : ℕ → Op → ℤ → ℕ → ℤ
 sumOf k op s a = sumOver k op s a (digit2 k a) (digit3 k a) (carryOf k (digit2 k a))
 
 -- what it is divided by [128 and 2,048]
@@ -66,9 +64,9 @@ divisorOf k Reciprocal = 2 ^ k
 divisorOf k Root = 16 * 2 ^ k
 divisorOf k InverseRoot = 16 * 2 ^ k
 
--- the series b
+-- the series b: the sum, which is never negative (`Sums.not-negative`), over its divisor, floored
 abbrev pub seriesOf : ℕ → Op → Bool → ℕ → ℕ
-seriesOf k op s a = sumOf k op s a / divisorOf k op
+seriesOf k op positive a = natAbs (sumOf k op (unit positive) a) / divisorOf k op
 
 -- 4. M by R and the parity p. Root: the largest whole w with w² × R ≤ 2^(9k + 1 + p) [64 + p];
 -- inverse root: the largest whole w with w² × 2^(k + 1 + p) ≤ R × 2^(8k) [8 + p, 56]

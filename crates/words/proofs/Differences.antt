@@ -1,72 +1,16 @@
--- A signed number as the difference of two naturals: an equation of such differences is one of naturals. Its sign and magnitude; its word,
--- and the word of a sum; and the word of a number near 0 with a bias. Assumes nothing.
-use mathlib.Core.Path.{_≡_, refl, sym, ap, ap₂, _∙_}
+-- Signed numbers and words: a number's sign and magnitude; its word, and the word of a sum; and the word of a number near 0 with a bias.
+-- Assumes nothing.
+use mathlib.Core.Path.{_≡_, refl, sym, ap, _∙_}
 use mathlib.Core.Bool.{Bool, true, false}
 use Prim.Native.Nat.{ℕ, zero, suc, _+_, _-_, _*_, _%_, _≤_, _<_}
-use native.Mathlib.Nat.{lt-of-not-le}
-use native.Mathlib.Decide.{decLe}
 use native.Mathlib.Omega.{arith}
 use borrow.Author.Tests.{lt-ltb, le-ltb, le-leb, lt-leb}
 use lib.Dec.{leb}
-use lib.IntN.{ℤ, pos, negsuc, negℤ, natAbs, subℕ, _+ℤ_, _-ℤ_, negℤ-+ℤ, negℤ-negℤ, +ℤ-comm}
+use lib.IntN.{ℤ, pos, negsuc, natAbs, subℕ, _+ℤ_}
+pub use Rattle.numbers.proofs.Differences.{either, diff-le, diff-lt, diff-eq, diff-pos, neg-pos, diff-add, diff-sub, diff-abs, abs-neg, neg-sub, abs-add}
 use Rattle.words.specs.Signed.{signed, wordOf, withSign, isNegative}
 use Rattle.words.specs.Parts.{partsOf}
 use Rattle.words.specs.declared.Signed.{Signed}
-
--- one order or the other
-pub either {ℓ} : {X : Type ℓ} (a b : ℕ) → (b ≤ a → X) → (a < b → X) → X
-either a b f g = elim (decLe b a) [ yes h ↦ f h | no h ↦ g (lt-of-not-le h) ]
-
-pub diff-le : (a b : ℕ) → b ≤ a → subℕ a b ≡ pos (a - b)
-diff-le a b h = simp (le-ltb a b h)
-
-pub diff-lt : (a b : ℕ) → a < b → subℕ a b ≡ negsuc (b - suc a)
-diff-lt a b h = simp (lt-ltb a b h)
-
-pub diff-eq : (a b c d : ℕ) → a + d ≡ c + b → subℕ a b ≡ subℕ c d
-diff-eq a b c d e =
-    either a b
-    (λ h. diff-le a b h ∙ ap pos (omega arith) ∙ sym (diff-le c d (omega arith)))
-    (λ h. diff-lt a b h ∙ ap negsuc (omega arith) ∙ sym (diff-lt c d (omega arith)))
-
-pub diff-pos : (a : ℕ) → pos a ≡ subℕ a 0
-diff-pos a = ap pos (omega arith) ∙ sym (diff-le a 0 (omega arith))
-
-pub neg-pos : (n : ℕ) → negℤ (pos n) ≡ subℕ 0 n
-neg-pos zero = refl
-neg-pos (suc n) = ap negsuc (omega arith) ∙ sym (diff-lt 0 (suc n) (omega arith))
-
-pub diff-neg : (a b : ℕ) → negℤ (subℕ a b) ≡ subℕ b a
-diff-neg a b =
-    either a b
-    (λ h. ap negℤ (diff-le a b h) ∙ neg-pos (a - b) ∙ diff-eq 0 (a - b) b a (omega arith))
-    (λ h. ap negℤ (diff-lt a b h) ∙ diff-pos (suc (b - suc a)) ∙ diff-eq (suc (b - suc a)) 0 b a (omega arith))
-
--- a sum of two differences, by the signs of both
-pub diff-add : (a b c d : ℕ) → subℕ a b +ℤ subℕ c d ≡ subℕ (a + c) (b + d)
-diff-add a b c d =
-    either a b
-    (λ h. either c d
-    (λ k.
-    ap₂ _+ℤ_ (diff-le a b h) (diff-le c d k)
-    ∙ diff-pos (a - b + (c - d))
-    ∙ diff-eq (a - b + (c - d)) 0 (a + c) (b + d) (omega arith))
-    (λ k. ap₂ _+ℤ_ (diff-le a b h) (diff-lt c d k) ∙ diff-eq (a - b) (suc (d - suc c)) (a + c) (b + d) (omega arith)))
-    (λ h. either c d
-    (λ k. ap₂ _+ℤ_ (diff-lt a b h) (diff-le c d k) ∙ diff-eq (c - d) (suc (b - suc a)) (a + c) (b + d) (omega arith))
-    (λ k.
-    ap₂ _+ℤ_ (diff-lt a b h) (diff-lt c d k)
-    ∙ ap negsuc (omega arith)
-    ∙ sym (diff-lt (a + c) (b + d) (omega arith))))
-
-pub diff-sub : (a b c d : ℕ) → subℕ a b -ℤ subℕ c d ≡ subℕ (a + d) (b + c)
-diff-sub a b c d = ap (λ (z : ℤ). subℕ a b +ℤ z) (diff-neg c d) ∙ diff-add a b d c
-
-pub diff-abs : (a b : ℕ) → natAbs (subℕ a b) ≡ (a - b) + (b - a)
-diff-abs a b =
-    either a b
-    (λ h. ap natAbs (diff-le a b h) ∙ omega arith)
-    (λ h. ap natAbs (diff-lt a b h) ∙ omega arith)
 
 -- ---- sign and magnitude
 
@@ -99,22 +43,6 @@ unfolding withSign
 abs-sign false g = refl
 abs-sign true zero = refl
 abs-sign true (suc g) = refl
-
-pub abs-neg : (z : ℤ) → natAbs (negℤ z) ≡ natAbs z
-abs-neg (pos zero) = refl
-abs-neg (pos (suc n)) = refl
-abs-neg (negsuc n) = refl
-
--- a difference the other way round
-pub neg-sub : (a b : ℤ) → negℤ (a -ℤ b) ≡ b -ℤ a
-neg-sub a b = negℤ-+ℤ a (negℤ b) ∙ ap (λ (z : ℤ). negℤ a +ℤ z) (negℤ-negℤ b) ∙ +ℤ-comm (negℤ a) b
-
--- the magnitude of a sum is at most the sum of the magnitudes
-pub abs-add : (a b : ℤ) → natAbs (a +ℤ b) ≤ natAbs a + natAbs b
-abs-add (pos a) (pos b) = omega arith
-abs-add (pos a) (negsuc b) = omega (arith, diff-abs a (suc b))
-abs-add (negsuc a) (pos b) = omega (arith, diff-abs b (suc a))
-abs-add (negsuc a) (negsuc b) = omega arith
 
 -- ---- words
 

@@ -1,51 +1,78 @@
 -- `series::inverse_root_series` meets its contract. Assumes nothing.
-use native.Mathlib.Omega.{arith}
-use Rattle.series.proofs.Parts.{inverse-root-is}
 use borrow.Author.Needs.{needs}
+use Rattle.kinds.specs.declared.Op.the-variants.{InverseRoot}
+use Rattle.numbers.proofs.Signed.{X, _⊞_, _⊟_, _⊠_}
+use Rattle.series.proofs.Sums.{s, linear, square, cross, cube, #, sumX, step-fits, not-negative, unsigned-fits, series-is, series-small}
 use Rattle.series.proofs.inverse_root_series.Statement.{statement}
 use Rattle.series.proofs.inverse_root_series.Tie as tie
 
-products-requires : tie.Need-products-requires
-products-requires c κs = search needs
+-- the sum, as far as its second, third and fourth term
+abbrev two : X
+two = # 549755813888 ⊟ # 1024 ⊠ s ⊠ linear
 
-mul-even : tie.Need-mul-even
-mul-even c = search needs
+abbrev three : X
+three = two ⊞ # 768 ⊠ square
 
-add-even : tie.Need-add-even
-add-even c = search needs
+abbrev four : X
+four = three ⊞ # 12 ⊠ cross
 
-mul-even-2 : tie.Need-mul-even-2
-mul-even-2 c = search needs
+unit-requires : tie.Need-unit-requires
+unit-requires c κs = search needs
 
-add-even-2 : tie.Need-add-even-2
-add-even-2 c = search needs
+terms-of-requires : tie.Need-terms-of-requires
+terms-of-requires c κs = search needs
 
-mul-less : tie.Need-mul-less
-mul-less c = search needs
+mul-sum : tie.Need-mul-sum
+mul-sum c = search (step-fits (# 1024 ⊠ s) tt)
 
-mul-less-2 : tie.Need-mul-less-2
-mul-less-2 c = search needs
+mul-sum-2 : tie.Need-mul-sum-2
+mul-sum-2 c = search (step-fits (# 1024 ⊠ s ⊠ linear) tt)
 
-add-less : tie.Need-add-less
-add-less c = search needs
+sub-sum : tie.Need-sub-sum
+sub-sum c = search (step-fits two tt)
 
-less-requires : tie.Need-less-requires
-less-requires c κs = search needs
+mul-sum-3 : tie.Need-mul-sum-3
+mul-sum-3 c = search (step-fits (# 768 ⊠ square) tt)
+
+add-sum : tie.Need-add-sum
+add-sum c = search (step-fits three tt)
+
+mul-sum-4 : tie.Need-mul-sum-4
+mul-sum-4 c = search (step-fits (# 12 ⊠ cross) tt)
+
+add-sum-2 : tie.Need-add-sum-2
+add-sum-2 c = search (step-fits four tt)
+
+mul-sum-5 : tie.Need-mul-sum-5
+mul-sum-5 c = search (step-fits (# 5 ⊠ s) tt)
+
+mul-sum-6 : tie.Need-mul-sum-6
+mul-sum-6 c = search (step-fits (# 5 ⊠ s ⊠ cube) tt)
+
+sub-sum-2 : tie.Need-sub-sum-2
+sub-sum-2 c = search (step-fits (sumX InverseRoot) tt)
+
+cast-result : tie.Need-cast-result
+cast-result c = (search (not-negative InverseRoot), search (unsigned-fits InverseRoot))
 
 returns : tie.Need-returns
-returns c = (search inverse-root-is, omega arith)
+returns c = (search (series-is InverseRoot), search (series-small InverseRoot))
 
 pub inverse-root-series-spec : {M : Type 1} → statement M
 inverse-root-series-spec =
     tie.close
     (tie.spec
-    products-requires
-    mul-even
-    add-even
-    mul-even-2
-    add-even-2
-    mul-less
-    mul-less-2
-    add-less
-    less-requires
+    unit-requires
+    terms-of-requires
+    mul-sum
+    mul-sum-2
+    sub-sum
+    mul-sum-3
+    add-sum
+    mul-sum-4
+    add-sum-2
+    mul-sum-5
+    mul-sum-6
+    sub-sum-2
+    cast-result
     returns)

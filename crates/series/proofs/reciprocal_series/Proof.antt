@@ -1,43 +1,70 @@
 -- `series::reciprocal_series` meets its contract. Assumes nothing.
-use native.Mathlib.Omega.{arith}
-use Rattle.series.proofs.Parts.{reciprocal-is}
 use borrow.Author.Needs.{needs}
+use Rattle.kinds.specs.declared.Op.the-variants.{Reciprocal}
+use Rattle.numbers.proofs.Signed.{X, _⊞_, _⊟_, _⊠_}
+use Rattle.series.proofs.Sums.{s, linear, square, cross, cube, #, sumX, step-fits, not-negative, unsigned-fits, series-is, series-small}
 use Rattle.series.proofs.reciprocal_series.Statement.{statement}
 use Rattle.series.proofs.reciprocal_series.Tie as tie
 
-products-requires : tie.Need-products-requires
-products-requires c κs = search needs
+-- the sum, as far as its first, second and third term
+abbrev one : X
+one = # 268435456 ⊟ s ⊠ linear
 
-less-requires : tie.Need-less-requires
-less-requires c κs = search needs
+abbrev two : X
+two = one ⊞ square
 
-add-less : tie.Need-add-less
-add-less c = search needs
+abbrev three : X
+three = # 128 ⊠ two ⊞ # 2 ⊠ cross
 
-mul-less : tie.Need-mul-less
-mul-less c = search needs
+unit-requires : tie.Need-unit-requires
+unit-requires c κs = search needs
 
-mul-less-2 : tie.Need-mul-less-2
-mul-less-2 c = search needs
+terms-of-requires : tie.Need-terms-of-requires
+terms-of-requires c κs = search needs
 
-add-less-2 : tie.Need-add-less-2
-add-less-2 c = search needs
+mul-sum : tie.Need-mul-sum
+mul-sum c = search (step-fits (s ⊠ linear) tt)
 
-less-requires-2 : tie.Need-less-requires-2
-less-requires-2 c κs = search needs
+sub-sum : tie.Need-sub-sum
+sub-sum c = search (step-fits one tt)
+
+add-sum : tie.Need-add-sum
+add-sum c = search (step-fits two tt)
+
+mul-sum-2 : tie.Need-mul-sum-2
+mul-sum-2 c = search (step-fits (# 128 ⊠ two) tt)
+
+mul-sum-3 : tie.Need-mul-sum-3
+mul-sum-3 c = search (step-fits (# 2 ⊠ cross) tt)
+
+add-sum-2 : tie.Need-add-sum-2
+add-sum-2 c = search (step-fits three tt)
+
+mul-sum-4 : tie.Need-mul-sum-4
+mul-sum-4 c = search (step-fits (s ⊠ cube) tt)
+
+sub-sum-2 : tie.Need-sub-sum-2
+sub-sum-2 c = search (step-fits (sumX Reciprocal) tt)
+
+cast-result : tie.Need-cast-result
+cast-result c = (search (not-negative Reciprocal), search (unsigned-fits Reciprocal))
 
 returns : tie.Need-returns
-returns c = (search reciprocal-is, omega arith)
+returns c = (search (series-is Reciprocal), search (series-small Reciprocal))
 
 pub reciprocal-series-spec : {M : Type 1} → statement M
 reciprocal-series-spec =
     tie.close
     (tie.spec
-    products-requires
-    less-requires
-    add-less
-    mul-less
-    mul-less-2
-    add-less-2
-    less-requires-2
+    unit-requires
+    terms-of-requires
+    mul-sum
+    sub-sum
+    add-sum
+    mul-sum-2
+    mul-sum-3
+    add-sum-2
+    mul-sum-4
+    sub-sum-2
+    cast-result
     returns)
