@@ -50,6 +50,12 @@ fn sides(operation: u8, rounding: u8, operands: &[u32]) -> Vec<Side<'_>> {
         #[cfg(feature = "softfloat")]
         sides.push(crate::softfloat::whole(operation, rounding, operands));
     }
+    #[cfg(feature = "before")]
+    sides.push(side("before", move || {
+        for &bits in operands {
+            black_box(crate::before::binary32(black_box(operation), black_box(rounding), 0, bits));
+        }
+    }));
     #[cfg(feature = "mpfr")]
     {
         sides.push(crate::mpfr::alone(operation, rounding, operands));
@@ -114,6 +120,8 @@ fn check(operands: &[u32]) {
                     }
                     _ => {}
                 }
+                #[cfg(feature = "before")]
+                assert_eq!(given, crate::before::binary32(operation, rounding, 0, bits), "{}", about());
                 #[cfg(feature = "softfloat")]
                 if operation < 3 {
                     assert_eq!(given, crate::softfloat::answer(operation, rounding, bits), "{}", about());

@@ -4,11 +4,14 @@
 //!     cargo run --release -- list                one of raw, binary32, list
 //!     cargo run --release --features mpfr        libmpfr in the binary32 part
 //!     cargo run --release --features softfloat   Berkeley SoftFloat in it
+//!     cargo run --release --features before      an earlier build of the library
 //!
 //! All times are of one core, nanoseconds a call, the best of many rounds. Every
 //! answer goes through black_box, so no call is left out. Before it is timed, a
 //! program for the same answers is compared with the library on what is timed.
 
+#[cfg(feature = "before")]
+mod before;
 mod binary32;
 mod list;
 #[cfg(feature = "mpfr")]

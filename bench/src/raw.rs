@@ -96,7 +96,22 @@ pub fn run() {
                 black_box(plain(black_box(operation), y, black_box(parity)));
             }
         });
-        compare(name, COUNT, vec![unit, other]);
+        #[cfg(feature = "before")]
+        for &y in &significands {
+            let given = calls::raw(operation, y, parity);
+            assert_eq!(given, crate::before::raw(operation, y, parity), "raw {operation} {y} {parity}");
+        }
+        let sides = vec![
+            unit,
+            other,
+            #[cfg(feature = "before")]
+            side("before", || {
+                for &y in &significands {
+                    black_box(crate::before::raw(black_box(operation), y, black_box(parity)));
+                }
+            }),
+        ];
+        compare(name, COUNT, sides);
     }
     println!();
 }

@@ -88,7 +88,7 @@ within-at (z ∷ l) (m ∷ t) h zero = h .0
 within-at (z ∷ l) (m ∷ t) h (suc i) = within-at l t (h .1) i
 
 -- magnitudes
-abs-times : (a b : ℤ) → natAbs (a *ℤ b) ≡ natAbs a * natAbs b
+pub abs-times : (a b : ℤ) → natAbs (a *ℤ b) ≡ natAbs a * natAbs b
 abs-times (pos a) (pos b) = refl
 abs-times (pos a) (negsuc b) = abs-neg (pos (a * suc b))
 abs-times (negsuc a) (pos b) = abs-neg (pos (suc a * b))

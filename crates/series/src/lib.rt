@@ -1,9 +1,10 @@
 // Steps 2 and 3 of the raw unit at k = 7: the reduction of a significand, and the three series.
 ghost use mathlib.Core.Path.{_≡_};
 ghost use Prim.Native.Nat.{_+_, _*_, _/_, _≤_, _<_, _^_};
+ghost use lib.IntN.{natAbs};
 ghost use Rattle.kinds.specs.declared.Op.the-variants.{Reciprocal, Root, InverseRoot};
 ghost use Rattle.significand.specs.Width.{k32, t32, Significand};
-ghost use Rattle.significand.specs.Steps.{unit as Steps·unit, factorOf, reducedOf, seriesOf};
+ghost use Rattle.significand.specs.Steps.{unit as Steps·unit, factorOf, seriesOf};
 ghost use Rattle.series.specs.Parts.{Reduced, TermsOf};
 
 // The sign and the magnitude of a reduction.
@@ -17,21 +18,22 @@ pub fn reduce(y: u32, r: u64) -> Reduction
     requires { ⌜ Significand k32 t32 y × (r ≡ factorOf k32 (y / 2 ^ 16)) ⌝ }
     ensures { λ d. ⌜ Reduced (y * r) d ⌝ }
 {
-    let u = (y as u64) * r;
+    let d = ((y as u64) * r) as i64 - 2147483648;
     Reduction {
-        positive: 2147483648 <= u,
-        magnitude: magnitude(u),
+        positive: 0 <= d,
+        magnitude: magnitude(d),
     }
 }
 
-// |u − 2^31| over 8: it is the magnitude that is floored, whatever the sign.
-fn magnitude(u: u64) -> u64
-    ensures { λ r. ⌜ r ≡ reducedOf k32 t32 u ⌝ }
+// |d| over 8: it is the magnitude that is floored, whatever the sign.
+fn magnitude(d: i64) -> u64
+    requires { ⌜ natAbs d < 2 ^ 63 ⌝ }
+    ensures { λ r. ⌜ r ≡ natAbs d / 8 ⌝ }
 {
-    if 2147483648 <= u {
-        (u - 2147483648) / 8
+    if 0 <= d {
+        d as u64 / 8
     } else {
-        (2147483648 - u) / 8
+        (0 - d) as u64 / 8
     }
 }
 
