@@ -2,7 +2,7 @@
 use mathlib.Core.Path.{_≡_, refl, sym, ap, _∙_}
 use mathlib.Core.Bool.{true, false, true≢false}
 use mathlib.Core.List.{List, [], _∷_}
-use Prim.Native.Nat.{ℕ, suc, _*_, _/_, _^_, _<_, zero-le}
+use Prim.Native.Nat.{ℕ, _+_, _*_, _/_, _^_, _<_, zero-le}
 use native.Mathlib.Omega.{arith}
 use borrow.Author.Tests.{le-leb}
 use lib.Dec.{T}
@@ -10,6 +10,7 @@ use lib.IntN.{ℤ, pos, negsuc, natAbs, _-ℤ_}
 use lib.Signed.{nonNeg, leZ}
 use mir.Syntax.{w64}
 use mir.Val.{Fits, SFits, toZ, ofZ}
+use mir.ValLaws.{toZ-ofZ}
 use Rattle.numbers.proofs.Signed.{X, given, lit, _⊟_, value, operand, worked, Within, fits, held, bounded}
 use Rattle.significand.specs.Width.{k32, t32, Significand}
 use Rattle.significand.specs.Steps.{factorOf, differenceOf, signOf, reducedOf}
@@ -26,41 +27,44 @@ passed : (z : ℤ) → leZ (pos 0) z ≡ true → T (nonNeg z)
 passed (pos n) e = tt
 passed (negsuc n) e = absurd (true≢false (sym e))
 
-failed : (z : ℤ) → leZ (pos 0) z ≡ false → pos 0 -ℤ z ≡ pos (natAbs z)
-failed (pos n) e = absurd (true≢false (sym (le-leb 0 n zero-le) ∙ e))
-failed (negsuc n) e = ap pos (omega arith)
+failed : (z : ℤ) (n : ℕ) → leZ (pos 0) z ≡ false → pos n -ℤ z ≡ pos (n + natAbs z)
+failed (pos m) n e = absurd (true≢false (sym (le-leb 0 m zero-le) ∙ e))
+failed (negsuc m) n e = refl
 
--- the magnitude of d, by its sign
-module _ (d : ℤ) (small : natAbs d < 9223372036854775808) where
-  within : Within (d ∷ []) (9223372036854775807 ∷ [])
-  within = (omega arith, tt)
+-- the magnitude of d by its sign: d itself, or a number n less d, where n is 0
+module _ (d : ℤ) (small : natAbs d < 17179869184) where
+  abbrev held-d : ℤ
+  held-d = toZ w64 (ofZ w64 d)
 
-  back : toZ w64 (ofZ w64 d) ≡ d
-  back = held (d ∷ []) (9223372036854775807 ∷ []) within (given 0) tt
+  back : held-d ≡ d
+  back = held (d ∷ []) (17179869184 ∷ []) (omega arith, tt) (given 0) tt
 
-  pub same-fits : Fits w64 (natAbs (toZ w64 (ofZ w64 d)))
+  pub same-sign : leZ (pos 0) held-d ≡ true → T (nonNeg held-d)
+  same-sign = passed held-d
+
+  pub same-fits : Fits w64 (natAbs held-d)
   same-fits = rw back (record { fits = omega arith })
 
-  pub same-sign : leZ (pos 0) (toZ w64 (ofZ w64 d)) ≡ true → T (nonNeg (toZ w64 (ofZ w64 d)))
-  same-sign = passed (toZ w64 (ofZ w64 d))
+  module _ (n : ℕ) (few : n < 4294967296) (e : leZ (pos 0) held-d ≡ false) where
+    turned : pos n -ℤ held-d ≡ pos (n + natAbs d)
+    turned = failed held-d n e ∙ ap (λ (z : ℤ). pos (n + natAbs z)) back
 
-  pub turned-fits : SFits w64 (pos 0 -ℤ toZ w64 (ofZ w64 d))
-  turned-fits = fits (d ∷ []) (9223372036854775807 ∷ []) within (lit (pos 0) ⊟ given 0) tt
+    pub turned-fits : SFits w64 (pos n -ℤ held-d)
+    turned-fits = rw turned (record { sfits = omega arith })
 
-  module _ (e : leZ (pos 0) (toZ w64 (ofZ w64 d)) ≡ false) where
-    turned : toZ w64 (ofZ w64 (pos 0 -ℤ toZ w64 (ofZ w64 d))) ≡ pos (natAbs d)
-    turned =
-        held (d ∷ []) (9223372036854775807 ∷ []) within (lit (pos 0) ⊟ given 0) tt
-        ∙ failed d (sym (ap (leZ (pos 0)) back) ∙ e)
+    held-turned : toZ w64 (ofZ w64 (pos n -ℤ held-d)) ≡ pos (n + natAbs d)
+    held-turned = toZ-ofZ w64 (pos n -ℤ held-d) turned-fits ∙ turned
 
-    pub turned-sign : T (nonNeg (toZ w64 (ofZ w64 (pos 0 -ℤ toZ w64 (ofZ w64 d)))))
-    turned-sign = rw turned tt
+    pub turned-sign : T (nonNeg (toZ w64 (ofZ w64 (pos n -ℤ held-d))))
+    turned-sign = rw held-turned tt
 
-    pub turned-unsigned : Fits w64 (natAbs (toZ w64 (ofZ w64 (pos 0 -ℤ toZ w64 (ofZ w64 d)))))
-    turned-unsigned = rw turned (record { fits = omega arith })
+    pub turned-unsigned : Fits w64 (natAbs (toZ w64 (ofZ w64 (pos n -ℤ held-d))))
+    turned-unsigned = rw held-turned (record { fits = omega arith })
 
-    pub turned-is : natAbs (toZ w64 (ofZ w64 (pos 0 -ℤ toZ w64 (ofZ w64 d)))) / 8 ≡ natAbs d / 8
-    turned-is = ap (λ (z : ℤ). natAbs z / 8) turned
+  pub turned-is : leZ (pos 0) held-d ≡ false → natAbs (toZ w64 (ofZ w64 (pos 0 -ℤ held-d))) / 8 ≡ natAbs d / 8
+  turned-is e =
+      let none : 0 + natAbs d ≡ natAbs d = omega arith in
+      ap (λ (z : ℤ). natAbs z / 8) (held-turned 0 (omega arith) e) ∙ ap (λ (n : ℕ). n / 8) none
 
 -- d, for a significand y and its R
 module _ (y r : ℕ) (Y : Significand k32 t32 y) (e : r ≡ factorOf k32 (y / 65536)) where
@@ -85,7 +89,7 @@ module _ (y r : ℕ) (Y : Significand k32 t32 y) (e : r ≡ factorOf k32 (y / 65
   difference-is : toZ w64 (ofZ w64 (toZ w64 (y * r) -ℤ pos 2147483648)) ≡ differenceOf k32 t32 u
   difference-is = held (pos u ∷ []) (8589934592 ∷ []) product-within difference tt
 
-  pub difference-small : natAbs (toZ w64 (ofZ w64 (toZ w64 (y * r) -ℤ pos 2147483648))) < 9223372036854775808
+  pub difference-small : natAbs (toZ w64 (ofZ w64 (toZ w64 (y * r) -ℤ pos 2147483648))) < 17179869184
   difference-small = omega (arith, bounded (pos u ∷ []) (8589934592 ∷ []) product-within difference tt)
 
   -- step 2

@@ -1,7 +1,7 @@
 // Steps 2 and 3 of the raw unit at k = 7: the reduction of a significand, and the three series.
 ghost use mathlib.Core.Path.{_≡_};
 ghost use Prim.Native.Nat.{_+_, _*_, _/_, _≤_, _<_, _^_};
-ghost use lib.IntN.{natAbs};
+ghost use lib.IntN.{pos, natAbs, _*ℤ_};
 ghost use Rattle.kinds.specs.declared.Op.the-variants.{Reciprocal, Root, InverseRoot};
 ghost use Rattle.significand.specs.Width.{k32, t32, Significand};
 ghost use Rattle.significand.specs.Steps.{unit as Steps·unit, factorOf, seriesOf};
@@ -27,7 +27,7 @@ pub fn reduce(y: u32, r: u64) -> Reduction
 
 // |d| over 8: it is the magnitude that is floored, whatever the sign.
 fn magnitude(d: i64) -> u64
-    requires { ⌜ natAbs d < 2 ^ 63 ⌝ }
+    requires { ⌜ natAbs d < 2 ^ 34 ⌝ }
     ensures { λ r. ⌜ r ≡ natAbs d / 8 ⌝ }
 {
     if 0 <= d {
@@ -37,14 +37,21 @@ fn magnitude(d: i64) -> u64
     }
 }
 
-// The sign s, +1 or −1.
+// The sign s, +1 or −1, and a product by it.
 fn unit(positive: bool) -> i64
     ensures { λ r. ⌜ r ≡ Steps·unit positive ⌝ }
 {
     if positive { 1 } else { -1 }
 }
 
-// What the three sums are made of: a, and of its 7-bit digits a2², a2·a3 and h·a2.
+fn times(s: i64, x: u64) -> i64
+    requires { ⌜ (natAbs s ≤ 1) × (x < 2 ^ 21) ⌝ }
+    ensures { λ r. ⌜ r ≡ s *ℤ pos x ⌝ }
+{
+    s * x as i64
+}
+
+// What the three sums are made of: s·a, a2², a2·a3 and s·h·a2.
 struct Terms {
     linear: i64,
     square: i64,
@@ -52,37 +59,38 @@ struct Terms {
     cube: i64,
 }
 
-fn terms_of(a: u64) -> Terms
+fn terms_of(positive: bool, a: u64) -> Terms
     requires { ⌜ a < 2 ^ 21 ⌝ }
-    ensures { λ r. ⌜ TermsOf a r ⌝ }
+    ensures { λ r. ⌜ TermsOf positive a r ⌝ }
 {
-    let a2 = a / 16384;
-    let a3 = a / 128 % 128;
+    let s = unit(positive);
+    let digits = a as u32;
+    let a2 = digits / 16384;
+    let a3 = digits / 128 % 128;
     let square = product(a2, a2);
     Terms {
-        linear: a as i64,
+        linear: times(s, a),
         square: square as i64,
         cross: product(a2, a3) as i64,
-        cube: product(square / 128, a2) as i64,
+        cube: times(s, product(square / 128, a2) as u64),
     }
 }
 
 // The product of two numbers of 7 bits.
-fn product(a: u64, b: u64) -> u64
+fn product(a: u32, b: u32) -> u32
     requires { ⌜ (a < 128) × (b < 128) ⌝ }
     ensures { λ r. ⌜ (r ≡ a * b) × (r < 2 ^ 14) ⌝ }
 {
     a * b
 }
 
-// Step 3, the series b of each operation: its sum, in the order in which document 01 prints it, and one floored division.
+// Step 3, the series b of each operation: its sum in the order in which document 01 prints it, and one floored division.
 pub fn reciprocal_series(positive: bool, a: u64) -> u64
     requires { ⌜ a < 2 ^ 21 ⌝ }
     ensures { λ r. ⌜ (r ≡ seriesOf k32 Reciprocal positive a) × (r < 2 ^ 29) ⌝ }
 {
-    let s = unit(positive);
-    let t = terms_of(a);
-    let sum = 128 * (268435456 - s * t.linear + t.square) + 2 * t.cross - s * t.cube;
+    let t = terms_of(positive, a);
+    let sum = 128 * (268435456 - t.linear + t.square) + 2 * t.cross - t.cube;
     sum as u64 / 128
 }
 
@@ -90,9 +98,8 @@ pub fn root_series(positive: bool, a: u64) -> u64
     requires { ⌜ a < 2 ^ 21 ⌝ }
     ensures { λ r. ⌜ (r ≡ seriesOf k32 Root positive a) × (r < 2 ^ 29) ⌝ }
 {
-    let s = unit(positive);
-    let t = terms_of(a);
-    let sum = 549755813888 + 1024 * s * t.linear - 256 * t.square - 4 * t.cross + s * t.cube;
+    let t = terms_of(positive, a);
+    let sum = 549755813888 + 1024 * t.linear - 256 * t.square - 4 * t.cross + t.cube;
     sum as u64 / 2048
 }
 
@@ -100,8 +107,7 @@ pub fn inverse_root_series(positive: bool, a: u64) -> u64
     requires { ⌜ a < 2 ^ 21 ⌝ }
     ensures { λ r. ⌜ (r ≡ seriesOf k32 InverseRoot positive a) × (r < 2 ^ 29) ⌝ }
 {
-    let s = unit(positive);
-    let t = terms_of(a);
-    let sum = 549755813888 - 1024 * s * t.linear + 768 * t.square + 12 * t.cross - 5 * s * t.cube;
+    let t = terms_of(positive, a);
+    let sum = 549755813888 - 1024 * t.linear + 768 * t.square + 12 * t.cross - 5 * t.cube;
     sum as u64 / 2048
 }

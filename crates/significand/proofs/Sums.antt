@@ -3,10 +3,10 @@
 use mathlib.Core.Path.{_≡_, sym, ap, _∙_}
 use mathlib.Core.Bool.{Bool, true, false, cond}
 use mathlib.Core.List.{[]}
-use Prim.Native.Nat.{ℕ, zero, suc, _+_, _*_, _-_, _/_, _^_, _≤_, _<_, zero-le}
+use Prim.Native.Nat.{ℕ, _+_, _*_, _-_, _/_, _^_, _≤_, _<_, zero-le}
 use native.Mathlib.Nat.{mul-div-le, lt-mul-div-succ, div-add-mod', mod-lt, le-of-mul-le-mul-left}
 use native.Mathlib.Omega.{arith}
-use lib.IntN.{ℤ, pos, negsuc, negℤ, natAbs, subℕ, _+ℤ_, _-ℤ_, _*ℤ_}
+use lib.IntN.{pos, natAbs, subℕ, _+ℤ_, _-ℤ_, _*ℤ_}
 use lib.Signed.{_≤ℤ_, leZ-yes}
 use lib.Dec.{le→leb}
 use lib.Pow.{pow-pos, pow-mono, shr-lt, shr-shr}
@@ -62,14 +62,6 @@ times-unit : (positive : Bool) (n : ℕ) → unit positive *ℤ pos n ≡ subℕ
 times-unit true n = diff-pos (1 * n) ∙ diff-eq (1 * n) 0 n 0 (omega arith)
 times-unit false n = neg-pos (1 * n) ∙ diff-eq 0 (1 * n) 0 n (omega arith)
 
--- and a number times s times a number
-scaled-unit : (positive : Bool) (m n : ℕ) → pos m *ℤ unit positive *ℤ pos n ≡ subℕ (cond positive (m * n) 0) (cond positive 0 (m * n))
-scaled-unit true m n = diff-pos (m * 1 * n) ∙ diff-eq (m * 1 * n) 0 (m * n) 0 (omega arith)
-scaled-unit false zero n = diff-pos (0 * n) ∙ diff-eq (0 * n) 0 0 (0 * n) (omega arith)
-scaled-unit false (suc m) n =
-    let e : suc m * 1 ≡ suc m = omega arith in
-    ap (λ (x : ℕ). negℤ (pos x) *ℤ pos n) e ∙ neg-pos (suc m * n)
-
 zero-least : (n : ℕ) → pos 0 ≤ℤ pos n
 zero-least n = leZ-yes (le→leb 0 n zero-le)
 
@@ -84,19 +76,20 @@ module _ (k a a2 a3 h : ℕ) where
 
     added : Op → ℕ
     added Reciprocal = 2 ^ k * (2 ^ (4 * k) + down a + a2 * a2) + 2 * a2 * a3 + down (h * a2)
-    added Root = 16 * 2 ^ k * 2 ^ (4 * k) + up (8 * 2 ^ k * a) + up (h * a2)
-    added InverseRoot = 16 * 2 ^ k * 2 ^ (4 * k) + down (8 * 2 ^ k * a) + 6 * 2 ^ k * a2 * a2 + 12 * a2 * a3 + down (5 * (h * a2))
+    added Root = 16 * 2 ^ k * 2 ^ (4 * k) + 8 * 2 ^ k * up a + up (h * a2)
+    added InverseRoot = 16 * 2 ^ k * 2 ^ (4 * k) + 8 * 2 ^ k * down a + 6 * 2 ^ k * a2 * a2 + 12 * a2 * a3 + 5 * down (h * a2)
 
     taken : Op → ℕ
     taken Reciprocal = 2 ^ k * up a + up (h * a2)
-    taken Root = down (8 * 2 ^ k * a) + 2 * 2 ^ k * a2 * a2 + 4 * a2 * a3 + down (h * a2)
-    taken InverseRoot = up (8 * 2 ^ k * a) + up (5 * (h * a2))
+    taken Root = 8 * 2 ^ k * down a + 2 * 2 ^ k * a2 * a2 + 4 * a2 * a3 + down (h * a2)
+    taken InverseRoot = 8 * 2 ^ k * up a + 5 * up (h * a2)
 
     difference : (op : Op) → sumOver k op (unit sign) a a2 a3 h ≡ subℕ (added op) (taken op)
     unfolding added taken
     difference Reciprocal = rw (times-unit sign a, times-unit sign (h * a2), less-diff, diff-more, diff-times, diff-more, diff-sub)
-    difference Root = rw (scaled-unit sign (8 * 2 ^ k) a, times-unit sign (h * a2), more-diff, diff-less, diff-less, diff-add)
-    difference InverseRoot = rw (scaled-unit sign (8 * 2 ^ k) a, scaled-unit sign 5 (h * a2), less-diff, diff-more, diff-more, diff-sub)
+    difference Root = rw (times-unit sign a, times-unit sign (h * a2), diff-times, more-diff, diff-less, diff-less, diff-add)
+    difference InverseRoot =
+        rw (times-unit sign a, times-unit sign (h * a2), diff-times (8 * 2 ^ k), diff-times 5, less-diff, diff-more, diff-more, diff-sub)
 
 -- what a sum takes away is no more than what it adds
 covered : (op : Op) (sign : Bool) → Passes (# 1) [] (losses op sign) (gains op sign)

@@ -25,9 +25,9 @@ abbrev pub printed : Op → ℤ → ℕ → ℕ → ℕ → ℕ → ℤ
 printed Reciprocal s a a2 a3 h =
     pos 128 *ℤ (pos 268435456 -ℤ s *ℤ pos a +ℤ pos (a2 * a2)) +ℤ pos (2 * a2 * a3) -ℤ s *ℤ pos (h * a2)
 printed Root s a a2 a3 h =
-    pos 549755813888 +ℤ pos 1024 *ℤ s *ℤ pos a -ℤ pos (256 * a2 * a2) -ℤ pos (4 * a2 * a3) +ℤ s *ℤ pos (h * a2)
+    pos 549755813888 +ℤ pos 1024 *ℤ (s *ℤ pos a) -ℤ pos (256 * a2 * a2) -ℤ pos (4 * a2 * a3) +ℤ s *ℤ pos (h * a2)
 printed InverseRoot s a a2 a3 h =
-    pos 549755813888 -ℤ pos 1024 *ℤ s *ℤ pos a +ℤ pos (768 * a2 * a2) +ℤ pos (12 * a2 * a3) -ℤ pos 5 *ℤ s *ℤ pos (h * a2)
+    pos 549755813888 -ℤ pos 1024 *ℤ (s *ℤ pos a) +ℤ pos (768 * a2 * a2) +ℤ pos (12 * a2 * a3) -ℤ pos 5 *ℤ (s *ℤ pos (h * a2))
 
 -- and their terms without s
 abbrev pub printedUnsigned : Op → ℕ → ℕ → ℤ

@@ -51,9 +51,9 @@ abbrev pub sumOver : ℕ → Op → ℤ → ℕ → ℕ → ℕ → ℕ → ℤ
 sumOver k Reciprocal s a a2 a3 h =
     pos (2 ^ k) *ℤ (pos (2 ^ (4 * k)) -ℤ s *ℤ pos a +ℤ pos (a2 * a2)) +ℤ pos (2 * a2 * a3) -ℤ s *ℤ pos (h * a2)
 sumOver k Root s a a2 a3 h =
-    pos (16 * 2 ^ k * 2 ^ (4 * k)) +ℤ pos (8 * 2 ^ k) *ℤ s *ℤ pos a -ℤ pos (2 * 2 ^ k * a2 * a2) -ℤ pos (4 * a2 * a3) +ℤ s *ℤ pos (h * a2)
+    pos (16 * 2 ^ k * 2 ^ (4 * k)) +ℤ pos (8 * 2 ^ k) *ℤ (s *ℤ pos a) -ℤ pos (2 * 2 ^ k * a2 * a2) -ℤ pos (4 * a2 * a3) +ℤ s *ℤ pos (h * a2)
 sumOver k InverseRoot s a a2 a3 h =
-    pos (16 * 2 ^ k * 2 ^ (4 * k)) -ℤ pos (8 * 2 ^ k) *ℤ s *ℤ pos a +ℤ pos (6 * 2 ^ k * a2 * a2) +ℤ pos (12 * a2 * a3) -ℤ pos 5 *ℤ s *ℤ pos (h * a2)
+    pos (16 * 2 ^ k * 2 ^ (4 * k)) -ℤ pos (8 * 2 ^ k) *ℤ (s *ℤ pos a) +ℤ pos (6 * 2 ^ k * a2 * a2) +ℤ pos (12 * a2 * a3) -ℤ pos 5 *ℤ (s *ℤ pos (h * a2))
 
 unfoldable pub sumOf : ℕ → Op → ℤ → ℕ → ℤ
 sumOf k op s a = sumOver k op s a (digit2 k a) (digit3 k a) (carryOf k (digit2 k a))

@@ -2,52 +2,43 @@
 use borrow.Author.Needs.{needs}
 use Rattle.kinds.specs.declared.Op.the-variants.{InverseRoot}
 use Rattle.numbers.proofs.Signed.{X, _⊞_, _⊟_, _⊠_}
-use Rattle.series.proofs.Sums.{s, linear, square, cross, cube, #, sumX, step-fits, not-negative, unsigned-fits, series-is, series-small}
+use Rattle.series.proofs.Sums.{linear, square, cross, cube, #, sumX, step-fits, not-negative, unsigned-fits, series-is, series-small}
 use Rattle.series.proofs.inverse_root_series.Statement.{statement}
 use Rattle.series.proofs.inverse_root_series.Tie as tie
 
--- the sum, as far as its second, third and fourth term
+-- the sum after one, two and three of its additions and subtractions
+abbrev one : X
+one = # 549755813888 ⊟ # 1024 ⊠ linear
+
 abbrev two : X
-two = # 549755813888 ⊟ # 1024 ⊠ s ⊠ linear
+two = one ⊞ # 768 ⊠ square
 
 abbrev three : X
-three = two ⊞ # 768 ⊠ square
-
-abbrev four : X
-four = three ⊞ # 12 ⊠ cross
-
-unit-requires : tie.Need-unit-requires
-unit-requires c κs = search needs
+three = two ⊞ # 12 ⊠ cross
 
 terms-of-requires : tie.Need-terms-of-requires
 terms-of-requires c κs = search needs
 
 mul-sum : tie.Need-mul-sum
-mul-sum c = search (step-fits (# 1024 ⊠ s) tt)
-
-mul-sum-2 : tie.Need-mul-sum-2
-mul-sum-2 c = search (step-fits (# 1024 ⊠ s ⊠ linear) tt)
+mul-sum c = search (step-fits (# 1024 ⊠ linear) tt)
 
 sub-sum : tie.Need-sub-sum
-sub-sum c = search (step-fits two tt)
+sub-sum c = search (step-fits one tt)
 
-mul-sum-3 : tie.Need-mul-sum-3
-mul-sum-3 c = search (step-fits (# 768 ⊠ square) tt)
+mul-sum-2 : tie.Need-mul-sum-2
+mul-sum-2 c = search (step-fits (# 768 ⊠ square) tt)
 
 add-sum : tie.Need-add-sum
-add-sum c = search (step-fits three tt)
+add-sum c = search (step-fits two tt)
 
-mul-sum-4 : tie.Need-mul-sum-4
-mul-sum-4 c = search (step-fits (# 12 ⊠ cross) tt)
+mul-sum-3 : tie.Need-mul-sum-3
+mul-sum-3 c = search (step-fits (# 12 ⊠ cross) tt)
 
 add-sum-2 : tie.Need-add-sum-2
-add-sum-2 c = search (step-fits four tt)
+add-sum-2 c = search (step-fits three tt)
 
-mul-sum-5 : tie.Need-mul-sum-5
-mul-sum-5 c = search (step-fits (# 5 ⊠ s) tt)
-
-mul-sum-6 : tie.Need-mul-sum-6
-mul-sum-6 c = search (step-fits (# 5 ⊠ s ⊠ cube) tt)
+mul-sum-4 : tie.Need-mul-sum-4
+mul-sum-4 c = search (step-fits (# 5 ⊠ cube) tt)
 
 sub-sum-2 : tie.Need-sub-sum-2
 sub-sum-2 c = search (step-fits (sumX InverseRoot) tt)
@@ -62,17 +53,14 @@ pub inverse-root-series-spec : {M : Type 1} → statement M
 inverse-root-series-spec =
     tie.close
     (tie.spec
-    unit-requires
     terms-of-requires
     mul-sum
-    mul-sum-2
     sub-sum
-    mul-sum-3
+    mul-sum-2
     add-sum
-    mul-sum-4
+    mul-sum-3
     add-sum-2
-    mul-sum-5
-    mul-sum-6
+    mul-sum-4
     sub-sum-2
     cast-result
     returns)

@@ -1,6 +1,7 @@
 -- `series::magnitude` meets its contract, by the sign. Assumes nothing.
 use Rattle.series.proofs.Parts.{same-fits, same-sign, turned-fits, turned-sign, turned-unsigned, turned-is}
 use borrow.Author.Needs.{needs}
+use lib.Dec.{lit<}
 use Rattle.series.proofs.magnitude.Statement.{statement}
 use Rattle.series.proofs.magnitude.Tie as tie
 
@@ -8,10 +9,10 @@ cast-result : tie.Need-cast-result
 cast-result c = (search same-sign, search same-fits)
 
 sub-result : tie.Need-sub-result
-sub-result c = search turned-fits
+sub-result c = search (lit<, turned-fits)
 
 cast-result-2 : tie.Need-cast-result-2
-cast-result-2 c = (search turned-sign, search turned-unsigned)
+cast-result-2 c = (search (lit<, turned-sign), search (lit<, turned-unsigned))
 
 returns : tie.Need-returns
 returns c = search needs

@@ -2,13 +2,13 @@
 use borrow.Author.Needs.{needs}
 use Rattle.kinds.specs.declared.Op.the-variants.{Reciprocal}
 use Rattle.numbers.proofs.Signed.{X, _⊞_, _⊟_, _⊠_}
-use Rattle.series.proofs.Sums.{s, linear, square, cross, cube, #, sumX, step-fits, not-negative, unsigned-fits, series-is, series-small}
+use Rattle.series.proofs.Sums.{linear, square, cross, cube, #, sumX, step-fits, not-negative, unsigned-fits, series-is, series-small}
 use Rattle.series.proofs.reciprocal_series.Statement.{statement}
 use Rattle.series.proofs.reciprocal_series.Tie as tie
 
--- the sum, as far as its first, second and third term
+-- the sum after one, two and three of its additions and subtractions
 abbrev one : X
-one = # 268435456 ⊟ s ⊠ linear
+one = # 268435456 ⊟ linear
 
 abbrev two : X
 two = one ⊞ square
@@ -16,14 +16,8 @@ two = one ⊞ square
 abbrev three : X
 three = # 128 ⊠ two ⊞ # 2 ⊠ cross
 
-unit-requires : tie.Need-unit-requires
-unit-requires c κs = search needs
-
 terms-of-requires : tie.Need-terms-of-requires
 terms-of-requires c κs = search needs
-
-mul-sum : tie.Need-mul-sum
-mul-sum c = search (step-fits (s ⊠ linear) tt)
 
 sub-sum : tie.Need-sub-sum
 sub-sum c = search (step-fits one tt)
@@ -31,17 +25,14 @@ sub-sum c = search (step-fits one tt)
 add-sum : tie.Need-add-sum
 add-sum c = search (step-fits two tt)
 
-mul-sum-2 : tie.Need-mul-sum-2
-mul-sum-2 c = search (step-fits (# 128 ⊠ two) tt)
+mul-sum : tie.Need-mul-sum
+mul-sum c = search (step-fits (# 128 ⊠ two) tt)
 
-mul-sum-3 : tie.Need-mul-sum-3
-mul-sum-3 c = search (step-fits (# 2 ⊠ cross) tt)
+mul-sum-2 : tie.Need-mul-sum-2
+mul-sum-2 c = search (step-fits (# 2 ⊠ cross) tt)
 
 add-sum-2 : tie.Need-add-sum-2
 add-sum-2 c = search (step-fits three tt)
-
-mul-sum-4 : tie.Need-mul-sum-4
-mul-sum-4 c = search (step-fits (s ⊠ cube) tt)
 
 sub-sum-2 : tie.Need-sub-sum-2
 sub-sum-2 c = search (step-fits (sumX Reciprocal) tt)
@@ -56,15 +47,12 @@ pub reciprocal-series-spec : {M : Type 1} → statement M
 reciprocal-series-spec =
     tie.close
     (tie.spec
-    unit-requires
     terms-of-requires
-    mul-sum
     sub-sum
     add-sum
+    mul-sum
     mul-sum-2
-    mul-sum-3
     add-sum-2
-    mul-sum-4
     sub-sum-2
     cast-result
     returns)

@@ -1,33 +1,54 @@
 -- `series::terms_of` meets its contract. Assumes nothing.
 use borrow.Author.Needs.{needs}
-use Rattle.series.proofs.Sums.{terms-are}
+use Rattle.series.proofs.Sums.{unit-small, terms-are}
 use Rattle.series.proofs.terms_of.Statement.{statement}
 use Rattle.series.proofs.terms_of.Tie as tie
+
+unit-requires : tie.Need-unit-requires
+unit-requires c κs = search needs
+
+cast-digits : tie.Need-cast-digits
+cast-digits c = search needs
 
 product-requires : tie.Need-product-requires
 product-requires c κs = search needs
 
-cast-t6 : tie.Need-cast-t6
-cast-t6 c = search needs
+times-requires : tie.Need-times-requires
+times-requires c κs = (search (needs, unit-small), search needs)
 
-cast-t7 : tie.Need-cast-t7
-cast-t7 c = search needs
+cast-t10 : tie.Need-cast-t10
+cast-t10 c = search needs
 
 product-requires-2 : tie.Need-product-requires-2
 product-requires-2 c κs = search needs
 
-cast-t8 : tie.Need-cast-t8
-cast-t8 c = search needs
+cast-t11 : tie.Need-cast-t11
+cast-t11 c = search needs
 
 product-requires-3 : tie.Need-product-requires-3
 product-requires-3 c κs = search needs
 
-cast-t11 : tie.Need-cast-t11
-cast-t11 c = search needs
+cast-times : tie.Need-cast-times
+cast-times c = search needs
+
+times-requires-2 : tie.Need-times-requires-2
+times-requires-2 c κs = (search (needs, unit-small), search needs)
 
 returns : tie.Need-returns
 returns c = search terms-are
 
 pub terms-of-spec : {M : Type 1} → statement M
 terms-of-spec =
-    tie.close (tie.spec product-requires cast-t6 cast-t7 product-requires-2 cast-t8 product-requires-3 cast-t11 returns)
+    tie.close
+    (tie.spec
+    unit-requires
+    cast-digits
+    product-requires
+    times-requires
+    cast-t10
+    product-requires-2
+    cast-t11
+    product-requires-3
+    cast-times
+    times-requires-2
+    returns)
