@@ -1,8 +1,8 @@
 -- Step 2 as the code works it, in 64-bit signed numbers. Assumes nothing.
 use mathlib.Core.Path.{_≡_, refl, sym, ap, _∙_}
 use mathlib.Core.Bool.{true, false, true≢false}
-use mathlib.Core.List.{List, [], _∷_}
-use Prim.Native.Nat.{ℕ, _+_, _*_, _/_, _^_, _<_, zero-le}
+use mathlib.Core.List.{[], _∷_}
+use Prim.Native.Nat.{ℕ, _+_, _*_, _/_, _<_, zero-le}
 use native.Mathlib.Omega.{arith}
 use borrow.Author.Tests.{le-leb}
 use lib.Dec.{T}
@@ -11,7 +11,7 @@ use lib.Signed.{nonNeg, leZ}
 use mir.Syntax.{w64}
 use mir.Val.{Fits, SFits, toZ, ofZ}
 use mir.ValLaws.{toZ-ofZ}
-use Rattle.numbers.proofs.Signed.{X, given, lit, _⊟_, value, operand, worked, Within, fits, held, bounded}
+use Rattle.numbers.proofs.Signed.{X, given, lit, _⊟_, Within, fits, held, bounded}
 use Rattle.significand.specs.Width.{k32, t32, Significand}
 use Rattle.significand.specs.Steps.{factorOf, differenceOf, signOf, reducedOf}
 use Rattle.significand.proofs.Sizes.{reduced-small}

@@ -31,11 +31,14 @@ signed-abs : (positive : Bool) (n : ℕ) → natAbs (unit positive *ℤ pos n) �
 signed-abs positive n = omega (arith, abs-times (unit positive) (pos n), ap (λ (m : ℕ). m * n) (unit-abs positive))
 
 module _ (s : ℤ) (x : ℕ) (h : natAbs s ≤ 1) (small : x < 2097152) where
-  pub times-fits : SFits w64 (worked (s ∷ pos x ∷ []) (given 0 ⊠ given 1))
-  times-fits = fits (s ∷ pos x ∷ []) (1 ∷ 2097152 ∷ []) (h, (omega arith, tt)) (given 0 ⊠ given 1) tt
+  abbrev pair : List ℤ
+  pair = s ∷ pos x ∷ []
 
-  pub times-is : operand (s ∷ pos x ∷ []) (given 0 ⊠ given 1) ≡ s *ℤ pos x
-  times-is = held (s ∷ pos x ∷ []) (1 ∷ 2097152 ∷ []) (h, (omega arith, tt)) (given 0 ⊠ given 1) tt
+  pub times-fits : SFits w64 (worked pair (given 0 ⊠ given 1))
+  times-fits = fits pair (1 ∷ 2097152 ∷ []) (h, (omega arith, tt)) (given 0 ⊠ given 1) tt
+
+  pub times-is : operand pair (given 0 ⊠ given 1) ≡ s *ℤ pos x
+  times-is = held pair (1 ∷ 2097152 ∷ []) (h, (omega arith, tt)) (given 0 ⊠ given 1) tt
 
 -- s, and a product by it, come back from their 64 bits
 unit-back : (positive : Bool) (s : ℤ) → s ≡ unit positive → toZ w64 (ofZ w64 s) ≡ unit positive
@@ -145,7 +148,7 @@ module _ (op : Op) (positive : Bool) (a : ℕ) (t : Terms) (below : a < 2097152)
   abbrev sum : ℤ
   sum = operand (numbers t) (sumX op)
 
-  sum-is : sum ≡ sumOf k32 op (unit positive) a
+  pub sum-is : sum ≡ sumOf k32 op (unit positive) a
   sum-is = held (numbers t) tops (within positive a t below h) (sumX op) (fine-sum op) ∙ value-is positive a t below h op
 
   most : natAbs sum ≤ top tops (sumX op)

@@ -1,16 +1,15 @@
 -- The numbered steps in the numbers of k = 7 and t = 3, as code and tables have them. Assumes nothing.
 use mathlib.Core.Path.{_≡_, refl, sym}
 use mathlib.Core.Bool.{Bool}
-use Prim.Native.Nat.{ℕ, _+_, _-_, _*_, _/_, _^_, _<_}
+use Prim.Native.Nat.{ℕ, _+_, _*_, _/_, _^_, _<_}
 use native.Mathlib.Omega.{arith}
-use lib.Dec.{T, eqb, leb, eqb→eq}
+use lib.Dec.{T, eqb, eqb→eq}
 use Rattle.kinds.specs.declared.Op.{Op}
 use Rattle.kinds.specs.declared.Op.the-variants.{Reciprocal, Root, InverseRoot}
 use Rattle.numbers.proofs.SquareRoot.{squareTight, square-tight}
 use Rattle.significand.specs.Width.{k32, t32}
 use Rattle.significand.specs.Steps.{indexOf, factorOf, signOf, reducedOf, sumOf, seriesOf, multiplierOf, rawOf}
 use Rattle.significand.specs.Printed.{Sums, Printed}
-use Rattle.significand.proofs.Reduction.{sign-by, reduced-by}
 use Rattle.significand.proofs.Sums.{sums}
 
 -- 1. the index and R, whose table's test is over i and the entry
@@ -24,13 +23,6 @@ factorTest i w = eqb w (32768 / i)
 pub factor-entry : (i w : ℕ) → T (factorTest i w) → w ≡ factorOf k32 i
 unfolding factorOf
 factor-entry i w t = eqb→eq w (32768 / i) t
-
--- 2. the sign and a of u = y × R
-pub sign-is : (u : ℕ) → leb 2147483648 u ≡ signOf k32 t32 u
-sign-is u = sym (sign-by k32 t32 u)
-
-pub reduced-is : (u : ℕ) → ((u - 2147483648) + (2147483648 - u)) / 8 ≡ reducedOf k32 t32 u
-reduced-is u = sym (reduced-by k32 t32 u)
 
 -- 3. the sums, of every a of 21 bits
 pub printed-sums : (op : Op) (a : ℕ) → a < 2 ^ 21 → Printed op a

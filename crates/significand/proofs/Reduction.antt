@@ -99,11 +99,11 @@ module _ (k t u : ℕ) where
   abbrev C : ℕ
   C = 2 ^ (4 * k + t)
 
-  pub sign-by : signOf k t u ≡ leb C u
+  sign-by : signOf k t u ≡ leb C u
   unfolding signOf
   sign-by = ap nonNeg (pos-less u C) ∙ diff-sign u C
 
-  pub reduced-by : reducedOf k t u ≡ ((u - C) + (C - u)) / 2 ^ t
+  reduced-by : reducedOf k t u ≡ ((u - C) + (C - u)) / 2 ^ t
   unfolding reducedOf
   reduced-by = ap (λ (n : ℕ). n / 2 ^ t) (ap natAbs (pos-less u C) ∙ diff-abs u C)
 

@@ -1,22 +1,22 @@
 -- Step 3: the digits of a, and the sums: each is what it adds less what it takes away, and is not negative; those of both signs add up to
 -- twice the terms without s. Assumes nothing.
-use mathlib.Core.Path.{_≡_, sym, ap, _∙_}
+use mathlib.Core.Path.{_≡_, ap, _∙_}
 use mathlib.Core.Bool.{Bool, true, false, cond}
 use mathlib.Core.List.{[]}
 use Prim.Native.Nat.{ℕ, _+_, _*_, _-_, _/_, _^_, _≤_, _<_, zero-le}
-use native.Mathlib.Nat.{mul-div-le, lt-mul-div-succ, div-add-mod', mod-lt, le-of-mul-le-mul-left}
+use native.Mathlib.Nat.{mul-div-le, lt-mul-div-succ, div-add-mod', mod-lt}
 use native.Mathlib.Omega.{arith}
-use lib.IntN.{pos, natAbs, subℕ, _+ℤ_, _-ℤ_, _*ℤ_}
+use lib.IntN.{pos, natAbs, subℕ, _+ℤ_, _*ℤ_}
 use lib.Signed.{_≤ℤ_, leZ-yes}
 use lib.Dec.{le→leb}
 use lib.Pow.{pow-pos, pow-mono, shr-lt, shr-shr}
 use Rattle.kinds.specs.declared.Op.{Op}
 use Rattle.kinds.specs.declared.Op.the-variants.{Reciprocal, Root, InverseRoot}
 use Rattle.numbers.proofs.Differences.{diff-le, diff-eq, diff-pos, neg-pos, diff-add, diff-sub, diff-more, diff-less, more-diff, less-diff, diff-times, pos-less}
-use Rattle.numbers.proofs.Ring.{E, #, _⊕_, _⊗_, ev}
+use Rattle.numbers.proofs.Ring.{#, _⊕_, _⊗_, ev}
 use Rattle.significand.specs.Steps.{digit2, digit3, digit4, carryOf, unit, sumOver, sumOf, divisorOf, seriesOf}
 use Rattle.significand.specs.Printed.{Sums, unsignedOver}
-use Rattle.significand.proofs.Series.{Point, env, z, q, w, n, gains, losses, divisor, rise, fall, Digits, Summed, Passes, by-tops}
+use Rattle.significand.proofs.Series.{Point, env, q, w, n, gains, losses, divisor, rise, fall, Digits, Summed, Passes, by-tops}
 use Rattle.significand.proofs.Scale.{radix-big, whole-is}
 use Rattle.significand.proofs.Reduction.{scaledOf}
 
