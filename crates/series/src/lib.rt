@@ -64,9 +64,8 @@ fn terms_of(positive: bool, a: u64) -> Terms
     ensures { λ r. ⌜ TermsOf positive a r ⌝ }
 {
     let s = unit(positive);
-    let digits = a as u32;
-    let a2 = digits / 16384;
-    let a3 = digits / 128 % 128;
+    let a2 = (a / 16384) as u32;
+    let a3 = (a / 128 % 128) as u32;
     let square = product(a2, a2);
     Terms {
         linear: times(s, a),

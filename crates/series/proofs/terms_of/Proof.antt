@@ -7,8 +7,11 @@ use Rattle.series.proofs.terms_of.Tie as tie
 unit-requires : tie.Need-unit-requires
 unit-requires c κs = search needs
 
-cast-digits : tie.Need-cast-digits
-cast-digits c = search needs
+cast-a2 : tie.Need-cast-a2
+cast-a2 c = search needs
+
+cast-a3 : tie.Need-cast-a3
+cast-a3 c = search needs
 
 product-requires : tie.Need-product-requires
 product-requires c κs = search needs
@@ -22,8 +25,8 @@ cast-t10 c = search needs
 product-requires-2 : tie.Need-product-requires-2
 product-requires-2 c κs = search needs
 
-cast-t11 : tie.Need-cast-t11
-cast-t11 c = search needs
+cast-t12 : tie.Need-cast-t12
+cast-t12 c = search needs
 
 product-requires-3 : tie.Need-product-requires-3
 product-requires-3 c κs = search needs
@@ -42,12 +45,13 @@ terms-of-spec =
     tie.close
     (tie.spec
     unit-requires
-    cast-digits
+    cast-a2
+    cast-a3
     product-requires
     times-requires
     cast-t10
     product-requires-2
-    cast-t11
+    cast-t12
     product-requires-3
     cast-times
     times-requires-2
