@@ -64,7 +64,7 @@ divisorOf k Reciprocal = 2 ^ k
 divisorOf k Root = 16 * 2 ^ k
 divisorOf k InverseRoot = 16 * 2 ^ k
 
--- the series b: the sum, which is never negative (`Sums.not-negative`), over its divisor, floored
+-- the series b: the sum, which is never negative (the law `Sums.sums`), over its divisor, floored
 abbrev pub seriesOf : ℕ → Op → Bool → ℕ → ℕ
 seriesOf k op positive a = natAbs (sumOf k op (unit positive) a) / divisorOf k op
 
