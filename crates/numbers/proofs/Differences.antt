@@ -1,17 +1,27 @@
 -- A signed number as the difference of two naturals: an equation of such differences is one of naturals. Assumes nothing.
-use mathlib.Core.Path.{_≡_, refl, sym, ap, ap₂, _∙_}
+use mathlib.Core.Path.{_≡_, refl, sym, ap, ap₂, subst, _∙_}
 use Prim.Native.Nat.{ℕ, zero, suc, _+_, _*_, _-_, _≤_, _<_}
 use native.Mathlib.Nat.{lt-of-not-le}
 use native.Mathlib.Decide.{decLe}
 use native.Mathlib.Omega.{arith}
 use borrow.Author.Tests.{lt-ltb, le-ltb, le-leb, lt-leb}
 use lib.Dec.{leb}
-use lib.Signed.{nonNeg}
+use lib.Signed.{nonNeg, leZ}
 use lib.IntN.{ℤ, pos, negsuc, negℤ, natAbs, subℕ, _+ℤ_, _-ℤ_, _*ℤ_, negℤ-+ℤ, negℤ-negℤ, +ℤ-comm}
 
 -- one order or the other
 pub either {ℓ} : {X : Type ℓ} (a b : ℕ) → (b ≤ a → X) → (a < b → X) → X
 either a b f g = elim (decLe b a) [ yes h ↦ f h | no h ↦ g (lt-of-not-le h) ]
+
+-- two tests that ask the same
+pub leb-same : (a b c d : ℕ) → (a ≤ b → c ≤ d) → (c ≤ d → a ≤ b) → leb a b ≡ leb c d
+leb-same a b c d f g =
+    either b a
+    (λ h. le-leb a b h ∙ sym (le-leb c d (f h)))
+    (λ h. lt-leb a b h ∙ sym (lt-leb c d (either c (suc d) (λ k. k) (λ k. absurd (clash h (g (omega arith)))))))
+  where
+    clash : {m n : ℕ} → n < m → m ≤ n → ⊥
+    clash h k = omega arith
 
 pub diff-le : (a b : ℕ) → b ≤ a → subℕ a b ≡ pos (a - b)
 diff-le a b h = simp (le-ltb a b h)
@@ -114,3 +124,35 @@ diff-sign a b =
     either a b
     (λ h. ap nonNeg (diff-le a b h) ∙ sym (le-leb b a h))
     (λ h. ap nonNeg (diff-lt a b h) ∙ sym (lt-leb b a h))
+
+-- every signed number is one
+abbrev pub over : ℤ → ℕ
+over (pos n) = n
+over (negsuc n) = 0
+
+abbrev pub under : ℤ → ℕ
+under (pos n) = 0
+under (negsuc n) = suc n
+
+pub as-diff : (z : ℤ) → z ≡ subℕ (over z) (under z)
+as-diff (pos n) = diff-pos n
+as-diff (negsuc n) = neg-pos (suc n)
+
+-- so that what holds of differences holds of all
+pub each-diff {ℓ} : (P : ℤ → Type ℓ) → ((a b : ℕ) → P (subℕ a b)) → (z : ℤ) → P z
+each-diff P f z = subst P (sym (as-diff z)) (f (over z) (under z))
+
+pub abs-parts : (z : ℤ) → natAbs z ≡ over z + under z
+abs-parts (pos n) = omega arith
+abs-parts (negsuc n) = omega arith
+
+-- their order is that of naturals
+pub diff-order : (a b c d : ℕ) → leZ (subℕ a b) (subℕ c d) ≡ leb (a + d) (c + b)
+diff-order a b c d =
+    either a b
+    (λ h. either c d
+    (λ k. ap₂ leZ (diff-le a b h) (diff-le c d k) ∙ leb-same (a - b) (c - d) (a + d) (c + b) (λ l. omega arith) (λ l. omega arith))
+    (λ k. ap₂ leZ (diff-le a b h) (diff-lt c d k) ∙ sym (lt-leb (a + d) (c + b) (omega arith))))
+    (λ h. either c d
+    (λ k. ap₂ leZ (diff-lt a b h) (diff-le c d k) ∙ sym (le-leb (a + d) (c + b) (omega arith)))
+    (λ k. ap₂ leZ (diff-lt a b h) (diff-lt c d k) ∙ leb-same (d - suc c) (b - suc a) (a + d) (c + b) (λ l. omega arith) (λ l. omega arith)))

@@ -2,6 +2,7 @@ pub mod Differences
 pub mod Exponents
 pub mod Bits
 pub mod Greatest
+pub mod Least
 pub mod Powers
 pub mod Products
 pub mod Ring

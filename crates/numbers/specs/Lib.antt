@@ -1,1 +1,2 @@
 pub mod Greatest
+pub mod Least

@@ -16,19 +16,16 @@ pub struct Inverse {
     pub shift: u32,
 }
 
-// Prepares a squared length. Its 24 highest bits are a significand, which is at most one unit too small, and the place of the highest
-// is an exponent, whose parity goes with the significand and whose half is a shift. The raw answer g is lowered by 24: by 8, its
-// distance, and by 16, which the unit of the significand makes at most.
+// Prepares a squared length by its leading bits: the exponent's parity goes with the significand, and its half is a shift. The raw
+// answer g is lowered by 24: by 8, its distance, and by 16, which the unit of the significand makes at most.
 pub fn inverse_of(q: u64) -> Inverse
     requires { ⌜ (0 < q) × (q < 2 ^ 35) ⌝ }
     ensures { λ r. ⌜ InverseOf q (r .low) (r .shift) ⌝ }
 {
-    let zeros = u64::leading_zeros(q);
-    let exponent = 63 - zeros;
-    let y = ((q << zeros) >> 40) as u32;
-    let g = raw::inverse_root(y, exponent % 2);
+    let leading = leading::leading_of(q);
+    let g = raw::inverse_root(leading.significand, leading.exponent % 2);
     let low = (g as u64) - 24;
-    let shift = 27 + exponent / 2;
+    let shift = 27 + leading.exponent / 2;
     Inverse { low, shift }
 }
 

@@ -1,0 +1,2 @@
+pub mod Exponents
+pub mod Significands

@@ -1,0 +1,112 @@
+-- The inverse root of a squared length from the raw one of its leading bits. Assumes nothing.
+use Prim.Native.Nat.{ℕ, _+_, _-_, _*_, _/_, _%_, _^_, _≤_, _<_}
+use mathlib.Core.Path.{_≡_, subst}
+use mathlib.Core.List.{List, [], _∷_}
+use mathlib.Core.Logic.{by-cases}
+use native.Mathlib.Nat.{mul-le-mul}
+use native.Mathlib.Decide.{decLt}
+use native.Mathlib.Omega.{arith}
+use lib.Pow.{pow-add}
+use Rattle.numbers.proofs.Ring.{E, v, #, _⊕_, _⊗_, _⊙_⊑_, nlin×}
+use Rattle.kinds.specs.declared.Op.the-variants.{InverseRoot}
+use Rattle.significand.specs.Width.{k32, t32}
+use Rattle.significand.specs.Steps.{rawOf}
+use Rattle.significand.specs.Distance.{Near}
+use Rattle.significand.proofs.Accepted.{raw-near}
+use Rattle.leading.specs.Leading.{LeadingOf}
+use Rattle.leading.proofs.Exponents.{parity-most, parity-power, halves-low, halves-high}
+use Rattle.offset.specs.Inverse.{InverseOf}
+
+-- what an answer near 2^28 over √(y · P / 2^23) is at least and at most, P being 1 or 2
+module _ (y P : ℕ) (y-least : 2 ^ 23 ≤ y) (y-most : y < 2 ^ 24) (P-least : 1 ≤ P) (P-most : P ≤ 2) (x : ℕ) where
+  answer-least : 2 ^ 79 < x * x * y * P → 2 ^ 27 ≤ x
+  answer-least above =
+      by-cases (decLt x (2 ^ 27))
+      (λ l.
+      let s : x ≤ 2 ^ 27 = omega arith in
+      let t : y * P ≤ 2 ^ 25 = omega (arith, mul-le-mul y-most P-most) in
+      omega (arith, mul-le-mul (mul-le-mul s s) t))
+      (λ l. omega arith)
+
+  answer-most : x * x * y * P < 2 ^ 79 → x < 2 ^ 28
+  answer-most below =
+      by-cases (decLt x (2 ^ 28)) (λ l. l)
+      (λ l.
+      let s : 2 ^ 28 ≤ x = omega arith in
+      let t : 2 ^ 23 ≤ y * P = omega (arith, mul-le-mul y-least P-least) in
+      omega (arith, mul-le-mul (mul-le-mul s s) t))
+
+abbrev vq : E
+vq = v 0
+
+abbrev vy : E
+vy = v 1
+
+abbrev vp : E
+vp = v 2
+
+abbrev vh : E
+vh = v 3
+
+abbrev vl : E
+vl = v 4
+
+-- with q · 2^23 from y to y + 1 times P and the square of h, g lowered by 24 is below, and 32 more is above
+module _ (q y P h low : ℕ) where
+  abbrev ρ : List ℕ
+  ρ = q ∷ y ∷ P ∷ h ∷ low ∷ []
+
+  inverse-below : low < 2 ^ 28 → 2 ^ 23 ≤ y → (low + 16) * (low + 16) * y * P < 2 ^ 79 → q * 2 ^ 23 ≤ (y + 1) * (h * h * P)
+      → low * low * q ≤ 2 ^ 56 * (h * h)
+  inverse-below most least below power =
+      nlin× ρ (# 8388608)
+      (vl ⊗ vl ⊙ vq ⊗ # 8388608 ⊑ (vy ⊕ # 1) ⊗ (vh ⊗ vh ⊗ vp)
+      ∷ vh ⊗ vh ⊙ (vl ⊕ # 16) ⊗ (vl ⊕ # 16) ⊗ vy ⊗ vp ⊑ # 604462909807314587353088
+      ∷ vl ⊗ vh ⊗ vh ⊗ vp ⊙ vl ⊑ # 32 ⊗ vy
+      ∷ [])
+      (vl ⊗ vl ⊗ vq) (# 72057594037927936 ⊗ (vh ⊗ vh)) tt (omega arith) (omega arith)
+
+  inverse-above : 2 ^ 79 < (low + 32) * (low + 32) * y * P → y * (h * h * P) ≤ q * 2 ^ 23
+      → 2 ^ 56 * (h * h) ≤ (low + 32) * (low + 32) * q
+  inverse-above above power =
+      nlin× ρ (# 8388608)
+      ((vl ⊕ # 32) ⊗ (vl ⊕ # 32) ⊙ vy ⊗ (vh ⊗ vh ⊗ vp) ⊑ vq ⊗ # 8388608
+      ∷ vh ⊗ vh ⊙ # 604462909807314587353088 ⊑ (vl ⊕ # 32) ⊗ (vl ⊕ # 32) ⊗ vy ⊗ vp
+      ∷ [])
+      (# 72057594037927936 ⊗ (vh ⊗ vh)) ((vl ⊕ # 32) ⊗ (vl ⊕ # 32) ⊗ vq) tt (omega arith) (omega arith)
+
+module _ (q y j : ℕ) (leading : LeadingOf q y j) (g : ℕ) (raw : g ≡ rawOf k32 t32 InverseRoot y (j % 2)) where
+  near : Near InverseRoot k32 t32 y (j % 2) 8 g
+  near = raw-near InverseRoot y (j % 2) g (leading .significand) (parity-most j) raw
+
+  inverse-near : (24 ≤ g) × InverseOf q (g - 24) (27 + j / 2)
+  inverse-near =
+      let P : ℕ = 2 ^ (j % 2) in
+      let h : ℕ = 2 ^ (j / 2) in
+      let y0 = leading .significand .least in
+      let y1 = leading .significand .below in
+      let P0 = parity-power j .0 in
+      let P1 = parity-power j .1 in
+      let least = answer-least y P y0 y1 P0 P1 (g + 8) (near .over) in
+      let most = answer-most y P y0 y1 P0 P1 (g - 8) (near .under) in
+      let e8 : g - 8 ≡ g - 24 + 16 = omega arith in
+      let e32 : g + 8 ≡ g - 24 + 32 = omega arith in
+      let below : (g - 24 + 16) * (g - 24 + 16) * y * P < 2 ^ 79 = subst (λ (x : ℕ). x * x * y * P < 2 ^ 79) e8 (near .under) in
+      let above : 2 ^ 79 < (g - 24 + 32) * (g - 24 + 32) * y * P = subst (λ (x : ℕ). 2 ^ 79 < x * x * y * P) e32 (near .over) in
+      let power-is : 2 ^ (27 + j / 2) ≡ 2 ^ 27 * h = pow-add 2 27 (j / 2) in
+      let squared : 4 * (2 ^ (27 + j / 2) * 2 ^ (27 + j / 2)) ≡ 2 ^ 56 * (h * h) = rw power-is (omega arith) in (
+        omega arith,
+        record {
+          least = omega arith;
+          most = omega arith;
+          shifts = omega (arith, leading .most);
+          below = rw squared (inverse-below q y P h (g - 24) (omega arith) y0 below (halves-high q y j leading));
+          above = rw squared (inverse-above q y P h (g - 24) above (halves-low q y j leading));
+        },
+      )
+
+  pub answer-above : 24 ≤ g
+  answer-above = inverse-near .0
+
+  pub inverse-is : InverseOf q (g - 24) (27 + j / 2)
+  inverse-is = inverse-near .1
