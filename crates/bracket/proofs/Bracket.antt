@@ -7,6 +7,7 @@ use Prim.Native.Nat.{ℕ, _*_, _<_}
 use lib.ListN.{length, drop}
 use lib.IntN.{ℤ, pos, _+ℤ_}
 use Rattle.kinds.specs.declared.Mode.the-variants.{Up, Down}
+use Rattle.kinds.specs.declared.Rule.the-variants.{Touching}
 use Rattle.words.specs.Word.{halfBytes}
 use Rattle.cutter.specs.Map.{widthOf, depthOf, stepOf, radiusOf}
 use Rattle.cutter.specs.Centre.{Point, coordinate}
@@ -28,30 +29,30 @@ module _ (m : List ℕ) {room : ℕ} (a : Accepted m room) where
 
   -- the centres of record n are equal where its point is exact
   centres-equal : (n : ℕ) → n < countOf (widthOf m) (depthOf m)
-      → (centreAt Down m n ≡ centreAt Up m n) ↔ ExactAt (stepOf m) (radiusOf m) (innerPoint m n)
-  centres-equal n h = rw (centre-at Down m n, centre-at Up m n) (at-point n h .equal)
+      → (centreAt Touching Down m n ≡ centreAt Touching Up m n) ↔ ExactAt (stepOf m) (radiusOf m) (innerPoint m n)
+  centres-equal n h = rw (centre-at Touching Down m n, centre-at Touching Up m n) (at-point n h .equal)
 
   -- the records are equal where the map is exact
-  records-equal : (allRecords Down m ≡ allRecords Up m) ↔ ExactMap m
+  records-equal : (allRecords Touching Down m ≡ allRecords Touching Up m) ↔ ExactMap m
   records-equal = (
     λ e. at-every m (λ (p : Point). ExactAt (stepOf m) (radiusOf m) p) (a .trailed .sizes .wide)
-        (λ n h. centres-equal n h .0 (same-centres Down Up m a e n h)),
-    λ x. same-records Down Up m (λ n h. centres-equal n h .1 (x _ _ (inner-at (widthOf m) (depthOf m) (a .trailed .sizes .wide) n h))),
+        (λ n h. centres-equal n h .0 (same-centres Touching Down Up m a e n h)),
+    λ x. same-records Touching Down Up m (λ n h. centres-equal n h .1 (x _ _ (inner-at (widthOf m) (depthOf m) (a .trailed .sizes .wide) n h))),
   )
 
   -- coordinates that differ are one apart
   entries-next : (n j : ℕ) → n < countOf (widthOf m) (depthOf m)
-      → (coordinate (centreAt Down m n) j ≡ coordinate (centreAt Up m n) j → ⊥)
-      → coordinate (centreAt Up m n) j ≡ coordinate (centreAt Down m n) j +ℤ pos 1
-  entries-next n j h = rw (centre-at Down m n, centre-at Up m n) (at-point n h .next j)
+      → (coordinate (centreAt Touching Down m n) j ≡ coordinate (centreAt Touching Up m n) j → ⊥)
+      → coordinate (centreAt Touching Up m n) j ≡ coordinate (centreAt Touching Down m n) j +ℤ pos 1
+  entries-next n j h = rw (centre-at Touching Down m n, centre-at Touching Up m n) (at-point n h .next j)
 
 -- demand 3 for the list: whatever the two lent buffers held
 pub list-bracket : (m a b : List ℕ) → listRefusal 2 m (length a) ≡ 0 → listRefusal 1 m (length b) ≡ 0 → ListBracket m a b
 unfolding halfBytes
 list-bracket m a b ea eb =
     let acc = accepted-of m (length a) (map-asked 2 m (length a) ea) in
-    let low = list-held 2 m a ea in
-    let high = list-held 1 m b eb in
+    let low = list-held Touching 2 m a ea in
+    let high = list-held Touching 1 m b eb in
     let eq = records-equal m acc in
     let n : ℕ = 12 * countOf (widthOf m) (depthOf m) in
     record {
@@ -64,7 +65,7 @@ list-bracket m a b ea eb =
           record {
             alike = trailerFront m;
             long = length-trailer-front m;
-            lower-end = ap (drop n) (low .front) ∙ list-end Down m;
-            upper-end = ap (drop n) (high .front) ∙ list-end Up m;
+            lower-end = ap (drop n) (low .front) ∙ list-end Touching Down m;
+            upper-end = ap (drop n) (high .front) ∙ list-end Touching Up m;
           };
     }

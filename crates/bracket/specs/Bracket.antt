@@ -6,6 +6,7 @@ use mathlib.Core.List.{List, [], _∷_, _++_}
 use lib.ListN.{length, take, drop}
 use lib.IntN.{ℤ, pos, natAbs, _+ℤ_}
 use Rattle.kinds.specs.declared.Mode.the-variants.{Up, Down}
+use Rattle.kinds.specs.declared.Rule.the-variants.{Touching}
 use Rattle.cutter.specs.Offset.{offsetOf, MultipleOf}
 use Rattle.cutter.specs.Map.{widthOf, depthOf}
 use Rattle.cutter.specs.Centre.{Point, coordinate, centreOf}
@@ -49,10 +50,10 @@ pub record EndsAlike (n : ℕ) (lower upper : List ℕ) : Type 0 where
 -- length reported, they end alike but for the rounding
 pub record ListBracket (m a b : List ℕ) : Type 0 where
   pub equal :
-      (take (12 * countOf (widthOf m) (depthOf m)) (bufferAfter 2 m a) ≡ take (12 * countOf (widthOf m) (depthOf m)) (bufferAfter 1 m b))
+      (take (12 * countOf (widthOf m) (depthOf m)) (bufferAfter Touching 2 m a) ≡ take (12 * countOf (widthOf m) (depthOf m)) (bufferAfter Touching 1 m b))
       ↔ ExactMap m
   pub next : (n j : ℕ) → n < countOf (widthOf m) (depthOf m) → j < 3
-      → (entryAt (bufferAfter 2 m a) n j ≡ entryAt (bufferAfter 1 m b) n j → ⊥)
-      → entryAt (bufferAfter 1 m b) n j ≡ entryAt (bufferAfter 2 m a) n j +ℤ pos 1
+      → (entryAt (bufferAfter Touching 2 m a) n j ≡ entryAt (bufferAfter Touching 1 m b) n j → ⊥)
+      → entryAt (bufferAfter Touching 1 m b) n j ≡ entryAt (bufferAfter Touching 2 m a) n j +ℤ pos 1
   pub ends :
-      EndsAlike (12 * countOf (widthOf m) (depthOf m)) (take (listLength m) (bufferAfter 2 m a)) (take (listLength m) (bufferAfter 1 m b))
+      EndsAlike (12 * countOf (widthOf m) (depthOf m)) (take (listLength m) (bufferAfter Touching 2 m a)) (take (listLength m) (bufferAfter Touching 1 m b))

@@ -10,6 +10,7 @@ use lib.Dec.{leb, eqb, lit<}
 use lib.ListN.{length}
 use lib.IntN.{natAbs}
 use Rattle.kinds.specs.Rounding.{isRounding, modeOf}
+use Rattle.kinds.specs.declared.Rule.{Rule}
 use Rattle.kinds.proofs.Questions.{later, yes, sure, both-are, ask-yes, ask-no, ask-most, then-later, then-none}
 use Rattle.words.specs.Word.{wordAt}
 use Rattle.words.specs.Signed.{signed}
@@ -198,16 +199,16 @@ module _ (rounding : ℕ) (m : List ℕ) where
   unfolding listAnswer
   accepted-answer room e = rw e
 
-  pub accepted-buffer : (out : List ℕ) → listRefusal rounding m (length out) ≡ 0
-      → bufferAfter rounding m out ≡ splice 0 (listBytes (modeOf rounding) m) out
+  pub accepted-buffer : (rule : Rule) (out : List ℕ) → listRefusal rounding m (length out) ≡ 0
+      → bufferAfter rule rounding m out ≡ splice 0 (listBytes rule (modeOf rounding) m) out
   unfolding bufferAfter
-  accepted-buffer out e = rw e
+  accepted-buffer rule out e = rw e
 
   -- a refused one reports 0 and leaves the buffer
   pub refused-answer : (room : ℕ) → (listRefusal rounding m room ≡ 0 → ⊥) → listAnswer rounding m room ≡ 0
   unfolding listAnswer
   refused-answer room h = rw (ne-eqb (listRefusal rounding m room) 0 h)
 
-  pub refused-buffer : (out : List ℕ) → (listRefusal rounding m (length out) ≡ 0 → ⊥) → bufferAfter rounding m out ≡ out
+  pub refused-buffer : (rule : Rule) (out : List ℕ) → (listRefusal rounding m (length out) ≡ 0 → ⊥) → bufferAfter rule rounding m out ≡ out
   unfolding bufferAfter
-  refused-buffer out h = rw (ne-eqb (listRefusal rounding m (length out)) 0 h)
+  refused-buffer rule out h = rw (ne-eqb (listRefusal rounding m (length out)) 0 h)

@@ -8,6 +8,7 @@ use lib.ListN.{length, take, drop}
 use lib.Seq.{take-append-seam, drop-append-seam}
 use lib.IntN.{natAbs}
 use Rattle.kinds.specs.declared.Mode.{Mode}
+use Rattle.kinds.specs.declared.Rule.{Rule}
 use Rattle.kinds.specs.declared.Mode.the-variants.{Nearest}
 use Rattle.kinds.specs.Rounding.{modeOf, numberOf}
 use Rattle.words.specs.Word.{wordAt, halfBytes, wordBytes}
@@ -47,56 +48,56 @@ record-entry k h j l = ap signed (word-at j l) ∙ signed-word (coordinate k j) 
 
 -- ---- two lists of a map
 
-module _ (a b : Mode) (m : List ℕ) where
+module _ (rule : Rule) (a b : Mode) (m : List ℕ) where
   -- the same records come from the same centres
-  pub same-centres : {room : ℕ} → Accepted m room → allRecords a m ≡ allRecords b m
-      → (n : ℕ) → n < countOf (widthOf m) (depthOf m) → centreAt a m n ≡ centreAt b m n
+  pub same-centres : {room : ℕ} → Accepted m room → allRecords rule a m ≡ allRecords rule b m
+      → (n : ℕ) → n < countOf (widthOf m) (depthOf m) → centreAt rule a m n ≡ centreAt rule b m n
   unfolding allRecords recordAt
   same-centres s e n h =
-      let r : recordBytes (centreAt a m n) ≡ recordBytes (centreAt b m n) =
-      joined-apart (recordAt a m) (recordAt b m) 12 (length-record a m) (length-record b m) (countOf (widthOf m) (depthOf m)) e n h in
-      same-centre (centreAt a m n) (centreAt b m n)
+      let r : recordBytes (centreAt rule a m n) ≡ recordBytes (centreAt rule b m n) =
+      joined-apart (recordAt rule a m) (recordAt rule b m) 12 (length-record rule a m) (length-record rule b m) (countOf (widthOf m) (depthOf m)) e n h in
+      same-centre (centreAt rule a m n) (centreAt rule b m n)
       (λ j l.
-      sym (record-entry (centreAt a m n) (centre-small m s a n h) j l)
+      sym (record-entry (centreAt rule a m n) (centre-small m s rule a n h) j l)
       ∙ ap (λ (x : List ℕ). signed (wordAt x (4 * j))) r
-      ∙ record-entry (centreAt b m n) (centre-small m s b n h) j l)
+      ∙ record-entry (centreAt rule b m n) (centre-small m s rule b n h) j l)
 
   -- and the same centres give the same records
-  pub same-records : ((n : ℕ) → n < countOf (widthOf m) (depthOf m) → centreAt a m n ≡ centreAt b m n) → allRecords a m ≡ allRecords b m
+  pub same-records : ((n : ℕ) → n < countOf (widthOf m) (depthOf m) → centreAt rule a m n ≡ centreAt rule b m n) → allRecords rule a m ≡ allRecords rule b m
   unfolding allRecords recordAt
   same-records e =
-      joined-same (recordAt a m) (recordAt b m) (countOf (widthOf m) (depthOf m)) (λ n h. ap recordBytes (e n h))
+      joined-same (recordAt rule a m) (recordAt rule b m) (countOf (widthOf m) (depthOf m)) (λ n h. ap recordBytes (e n h))
 
 -- ---- a list with a trailer of a kind, whatever stands behind it
 
-module _ (k : Kind) (mode : Mode) (m rest : List ℕ) where
-  list-behind : listOf k mode m ++ rest ≡ allRecords mode m ++ (trailerBytes k (listFields k mode m) ++ rest)
+module _ (k : Kind) (rule : Rule) (mode : Mode) (m rest : List ℕ) where
+  list-behind : listOf k rule mode m ++ rest ≡ allRecords rule mode m ++ (trailerBytes k (listFields k mode m) ++ rest)
   unfolding listOf
-  list-behind = append-assoc (allRecords mode m) (trailerBytes k (listFields k mode m)) rest
+  list-behind = append-assoc (allRecords rule mode m) (trailerBytes k (listFields k mode m)) rest
 
   -- its records stand first
-  list-records : take (12 * countOf (widthOf m) (depthOf m)) (listOf k mode m ++ rest) ≡ allRecords mode m
+  list-records : take (12 * countOf (widthOf m) (depthOf m)) (listOf k rule mode m ++ rest) ≡ allRecords rule mode m
   list-records =
-      ap₂ take (sym (length-records mode m)) list-behind
-      ∙ take-append-seam (allRecords mode m) (trailerBytes k (listFields k mode m) ++ rest)
+      ap₂ take (sym (length-records rule mode m)) list-behind
+      ∙ take-append-seam (allRecords rule mode m) (trailerBytes k (listFields k mode m) ++ rest)
 
   module _ (n j : ℕ) (h : n < countOf (widthOf m) (depthOf m)) (l : j < 3) where
     -- the word at byte 4·j of record n
-    list-word : wordAt (listOf k mode m ++ rest) (12 * n + 4 * j) ≡ wordAt (recordAt mode m n) (4 * j)
+    list-word : wordAt (listOf k rule mode m ++ rest) (12 * n + 4 * j) ≡ wordAt (recordAt rule mode m n) (4 * j)
     unfolding allRecords
     list-word =
         let c = countOf (widthOf m) (depthOf m) in
-        let f = recordAt mode m in
+        let f = recordAt rule mode m in
         let t = trailerBytes k (listFields k mode m) in
         let place : 12 * n + 4 * j ≡ n * 12 + 4 * j = omega arith in
-        ap (wordAt (listOf k mode m ++ rest)) place
+        ap (wordAt (listOf k rule mode m ++ rest)) place
         ∙ ap (λ (s : List ℕ). wordAt s (n * 12 + 4 * j)) list-behind
-        ∙ joined-word f 12 (length-record mode m) c n (4 * j) (t ++ rest) h (omega arith)
+        ∙ joined-word f 12 (length-record rule mode m) c n (4 * j) (t ++ rest) h (omega arith)
 
     -- entry j of record n
-    pub list-entry : {room : ℕ} → Accepted m room → entryAt (listOf k mode m ++ rest) n j ≡ coordinate (centreAt mode m n) j
+    pub list-entry : {room : ℕ} → Accepted m room → entryAt (listOf k rule mode m ++ rest) n j ≡ coordinate (centreAt rule mode m n) j
     unfolding recordAt
-    list-entry s = ap signed list-word ∙ record-entry (centreAt mode m n) (centre-small m s mode n h) j l
+    list-entry s = ap signed list-word ∙ record-entry (centreAt rule mode m n) (centre-small m s rule mode n h) j l
 
 -- ---- the trailer of a new list
 
@@ -109,35 +110,35 @@ pub length-trailer-front : (m : List ℕ) → length (trailerFront m) ≡ 16
 unfolding trailerFront frontBytes halfBytes wordBytes
 length-trailer-front m = refl
 
-pub list-end : (mode : Mode) (m : List ℕ) → drop (12 * countOf (widthOf m) (depthOf m)) (listBytes mode m) ≡ trailerFront m ++ halfBytes (numberOf mode)
+pub list-end : (rule : Rule) (mode : Mode) (m : List ℕ) → drop (12 * countOf (widthOf m) (depthOf m)) (listBytes rule mode m) ≡ trailerFront m ++ halfBytes (numberOf mode)
 unfolding listOf trailerBytes trailerFront frontBytes
-list-end mode m =
-    ap (λ (n : ℕ). drop n (listBytes mode m)) (sym (length-records mode m))
-    ∙ drop-append-seam (allRecords mode m) (trailerBytes newList (listFields newList mode m))
+list-end rule mode m =
+    ap (λ (n : ℕ). drop n (listBytes rule mode m)) (sym (length-records rule mode m))
+    ∙ drop-append-seam (allRecords rule mode m) (trailerBytes newList (listFields newList mode m))
 
 -- ---- the buffer
 
-module _ (rounding : ℕ) (m out : List ℕ) (e : listRefusal rounding m (length out) ≡ 0) where
+module _ (rule : Rule) (rounding : ℕ) (m out : List ℕ) (e : listRefusal rounding m (length out) ≡ 0) where
   entry-is : (n j : ℕ) → n < countOf (widthOf m) (depthOf m) → j < 3
-      → entryAt (bufferAfter rounding m out) n j ≡ coordinate (centreAt (modeOf rounding) m n) j
+      → entryAt (bufferAfter rule rounding m out) n j ≡ coordinate (centreAt rule (modeOf rounding) m n) j
   unfolding splice
   entry-is n j h l =
-      ap (λ (s : List ℕ). entryAt s n j) (accepted-buffer rounding m out e)
-      ∙ list-entry newList (modeOf rounding) m (drop (0 + length (listBytes (modeOf rounding) m)) out) n j h l (accepted-of m (length out) (map-asked rounding m (length out) e))
+      ap (λ (s : List ℕ). entryAt s n j) (accepted-buffer rounding m rule out e)
+      ∙ list-entry newList rule (modeOf rounding) m (drop (0 + length (listBytes rule (modeOf rounding) m)) out) n j h l (accepted-of m (length out) (map-asked rounding m (length out) e))
 
-  records-are : take (12 * countOf (widthOf m) (depthOf m)) (bufferAfter rounding m out) ≡ allRecords (modeOf rounding) m
+  records-are : take (12 * countOf (widthOf m) (depthOf m)) (bufferAfter rule rounding m out) ≡ allRecords rule (modeOf rounding) m
   unfolding splice
   records-are =
-      ap (take (12 * countOf (widthOf m) (depthOf m))) (accepted-buffer rounding m out e)
-      ∙ list-records newList (modeOf rounding) m (drop (0 + length (listBytes (modeOf rounding) m)) out)
+      ap (take (12 * countOf (widthOf m) (depthOf m))) (accepted-buffer rounding m rule out e)
+      ∙ list-records newList rule (modeOf rounding) m (drop (0 + length (listBytes rule (modeOf rounding) m)) out)
 
   -- what an accepted call leaves
-  pub list-held : ListHeld rounding m out
+  pub list-held : ListHeld rule rounding m out
   list-held =
       record {
         reported = accepted-answer rounding m (length out) e;
-        front = rw (accepted-buffer rounding m out e, ← length-list (modeOf rounding) m) (splice-take (listBytes (modeOf rounding) m) out);
+        front = rw (accepted-buffer rounding m rule out e, ← length-list rule (modeOf rounding) m) (splice-take (listBytes rule (modeOf rounding) m) out);
         records = records-are;
-        behind = rw (accepted-buffer rounding m out e, ← length-list (modeOf rounding) m) (splice-drop (listBytes (modeOf rounding) m) out);
+        behind = rw (accepted-buffer rounding m rule out e, ← length-list rule (modeOf rounding) m) (splice-drop (listBytes rule (modeOf rounding) m) out);
         entry = entry-is;
       }

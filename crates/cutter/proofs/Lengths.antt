@@ -5,6 +5,7 @@ use Prim.Native.Nat.{ℕ, _+_, _*_}
 use native.Mathlib.Omega.{arith}
 use lib.ListN.{length, length-append}
 use Rattle.kinds.specs.declared.Mode.{Mode}
+use Rattle.kinds.specs.declared.Rule.{Rule}
 use Rattle.words.specs.Word.{wordBytes}
 use Rattle.words.proofs.Runs.{length-joined}
 use Rattle.trailer.specs.Kinds.{lengthOf, newList}
@@ -15,24 +16,24 @@ use Rattle.cutter.specs.Map.{widthOf, depthOf}
 use Rattle.cutter.specs.Centre.{recordBytes}
 use Rattle.cutter.specs.List.{countOf, recordAt, allRecords, listFields, listOf, listLength, listBytes}
 
-pub length-record : (mode : Mode) (m : List ℕ) (n : ℕ) → length (recordAt mode m n) ≡ 12
+pub length-record : (rule : Rule) (mode : Mode) (m : List ℕ) (n : ℕ) → length (recordAt rule mode m n) ≡ 12
 unfolding recordAt recordBytes wordBytes
-length-record mode m n = refl
+length-record rule mode m n = refl
 
-pub length-records : (mode : Mode) (m : List ℕ) → length (allRecords mode m) ≡ 12 * countOf (widthOf m) (depthOf m)
+pub length-records : (rule : Rule) (mode : Mode) (m : List ℕ) → length (allRecords rule mode m) ≡ 12 * countOf (widthOf m) (depthOf m)
 unfolding allRecords
-length-records mode m = length-joined (recordAt mode m) 12 (length-record mode m) (countOf (widthOf m) (depthOf m)) ∙ omega arith
+length-records rule mode m = length-joined (recordAt rule mode m) 12 (length-record rule mode m) (countOf (widthOf m) (depthOf m)) ∙ omega arith
 
 -- a list is its records and its trailer
-pub list-parts : (k : Kind) (mode : Mode) (m : List ℕ) → listOf k mode m ≡ allRecords mode m ++ trailerBytes k (listFields k mode m)
+pub list-parts : (k : Kind) (rule : Rule) (mode : Mode) (m : List ℕ) → listOf k rule mode m ≡ allRecords rule mode m ++ trailerBytes k (listFields k mode m)
 unfolding listOf
-list-parts k mode m = refl
+list-parts k rule mode m = refl
 
-pub length-of-list : (k : Kind) (mode : Mode) (m : List ℕ) → length (listOf k mode m) ≡ 12 * countOf (widthOf m) (depthOf m) + lengthOf k
+pub length-of-list : (k : Kind) (rule : Rule) (mode : Mode) (m : List ℕ) → length (listOf k rule mode m) ≡ 12 * countOf (widthOf m) (depthOf m) + lengthOf k
 unfolding listOf
-length-of-list k mode m =
-    length-append (allRecords mode m) (trailerBytes k (listFields k mode m))
-    ∙ omega (arith, length-records mode m, length-trailer k (listFields k mode m))
+length-of-list k rule mode m =
+    length-append (allRecords rule mode m) (trailerBytes k (listFields k mode m))
+    ∙ omega (arith, length-records rule mode m, length-trailer k (listFields k mode m))
 
 pub list-length-is : (m : List ℕ) → listLength m ≡ 12 * countOf (widthOf m) (depthOf m) + lengthOf newList
 unfolding listLength
@@ -43,6 +44,6 @@ pub smallest-list : (m : List ℕ) → widthOf m ≡ 3 → depthOf m ≡ 3 → l
 unfolding listLength
 smallest-list m w d = rw (w, d) refl
 
-pub length-list : (mode : Mode) (m : List ℕ) → length (listBytes mode m) ≡ listLength m
+pub length-list : (rule : Rule) (mode : Mode) (m : List ℕ) → length (listBytes rule mode m) ≡ listLength m
 unfolding listLength
-length-list mode m = length-of-list newList mode m
+length-list rule mode m = length-of-list newList rule mode m

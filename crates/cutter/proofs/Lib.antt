@@ -4,7 +4,9 @@ pub mod Lengths
 pub mod Offsets
 pub mod Ties
 pub mod Places
+pub mod Lifts
 pub mod Points
+pub mod Lifted
 pub mod Locality
 pub mod Entries
 pub mod Rows

@@ -7,6 +7,8 @@ use native.Mathlib.Omega.{arith}
 use lib.Dec.{lit<}
 use lib.IntN.{ℤ, pos, negℤ, natAbs, _+ℤ_}
 use Rattle.kinds.specs.declared.Mode.{Mode}
+use Rattle.kinds.specs.declared.Rule.{Rule}
+use Rattle.kinds.specs.declared.Rule.the-variants.{Touching, Lifted}
 use Rattle.words.specs.Word.{wordAt, wordBytes}
 use Rattle.words.specs.Signed.{signed, wordOf}
 use Rattle.words.proofs.Differences.{abs-neg, abs-add}
@@ -14,10 +16,12 @@ use Rattle.cutter.specs.Limits.{sideMost, heightMost}
 use Rattle.cutter.specs.Offset.{squaredLength, offsetOf}
 use Rattle.cutter.specs.Map.{Inner, widthOf, depthOf, stepOf, radiusOf, heightAt, dxAt, dyAt}
 use Rattle.cutter.specs.Centre.{Point, Centre, coordinate, centreOf, pointAt, recordBytes}
-use Rattle.cutter.specs.List.{countOf, columnOf, rowOf, innerPoint, centreAt, recordAt}
+use Rattle.cutter.specs.Lift.{Contact, contactAt, nineAt, lifted}
+use Rattle.cutter.specs.List.{countOf, columnOf, rowOf, innerPoint, centreBy, centreAt, recordAt}
 use Rattle.cutter.specs.Accepted.{Steps, Accepted}
 use Rattle.cutter.proofs.Offsets.{offset-most}
 use Rattle.cutter.proofs.Places.{inside, inner-at}
+use Rattle.cutter.proofs.Lifts.{AllWithin, nine-all, lifted-abs}
 
 -- what is known of the step, the radius and a point of an accepted map
 pub record InRange (step radius : ℕ) (p : Point) : Type 0 where
@@ -86,9 +90,9 @@ module _ (step radius : ℕ) (p : Point) (h : InRange step radius p) where
   point-to (suc zero) = omega (arith, mul-le-mul (h .row-to) (h .steps .step-most))
   point-to (suc (suc j)) = omega (arith, h .height-to)
 
-  -- every coordinate is a signed number of 32 bits
-  coordinate-small : (mode : Mode) (j : ℕ) → natAbs (coordinate (centreOf mode step radius p) j) < 2147483648
-  coordinate-small mode j =
+  -- every coordinate is a small number
+  pub coordinate-most : (mode : Mode) (j : ℕ) → natAbs (coordinate (centreOf mode step radius p) j) ≤ 1048576
+  coordinate-most mode j =
       let q = lengthAt step p in
       let z = normalAlong step p j in
       let o = offsetOf mode z radius q in
@@ -98,13 +102,30 @@ module _ (step radius : ℕ) (p : Point) (h : InRange step radius p) where
 -- ---- an accepted map
 
 -- the centre of record n is that of its point
-pub centre-at : (mode : Mode) (m : List ℕ) (n : ℕ) → centreAt mode m n ≡ centreOf mode (stepOf m) (radiusOf m) (innerPoint m n)
+pub centre-at : (rule : Rule) (mode : Mode) (m : List ℕ) (n : ℕ)
+    → centreAt rule mode m n ≡ centreBy rule mode m (widthOf m) (stepOf m) (radiusOf m) (columnOf (widthOf m) n) (rowOf (widthOf m) n)
 unfolding centreAt
-centre-at mode m n = refl
+centre-at rule mode m n = refl
 
-pub record-at : (mode : Mode) (m : List ℕ) (n : ℕ) → recordAt mode m n ≡ recordBytes (centreOf mode (stepOf m) (radiusOf m) (innerPoint m n))
+pub record-at : (rule : Rule) (mode : Mode) (m : List ℕ) (n : ℕ)
+    → recordAt rule mode m n ≡ recordBytes (centreBy rule mode m (widthOf m) (stepOf m) (radiusOf m) (columnOf (widthOf m) n) (rowOf (widthOf m) n))
 unfolding recordAt centreAt
-record-at mode m n = refl
+record-at rule mode m n = refl
+
+-- the nine heights round it, as its centre has them
+abbrev pub nineOf : Mode → List ℕ → ℕ → List Contact
+nineOf mode m n =
+    nineAt m (widthOf m) (stepOf m) (centreOf mode (stepOf m) (radiusOf m) (innerPoint m n)) (columnOf (widthOf m) n) (rowOf (widthOf m) n)
+
+-- the lift keeps x and y
+module _ (mode : Mode) (m : List ℕ) (n : ℕ) where
+  pub x-lifted : centreAt Lifted mode m n .x ≡ centreAt Touching mode m n .x
+  unfolding centreAt lifted
+  x-lifted = refl
+
+  pub y-lifted : centreAt Lifted mode m n .y ≡ centreAt Touching mode m n .y
+  unfolding centreAt lifted
+  y-lifted = refl
 
 module _ (m : List ℕ) {room : ℕ} (a : Accepted m room) where
   -- heights of the map are small
@@ -128,8 +149,37 @@ module _ (m : List ℕ) {room : ℕ} (a : Accepted m room) where
         height-to = height-small c q (omega arith) (omega arith);
       }
 
-  -- its centre has coordinates of 32 bits
-  pub centre-small : (mode : Mode) (n : ℕ) → n < countOf (widthOf m) (depthOf m)
-      → (j : ℕ) → natAbs (coordinate (centreAt mode m n) j) < 2147483648
-  centre-small mode n h j =
-      rw (centre-at mode m n) (coordinate-small (stepOf m) (radiusOf m) (innerPoint m n) (inner-in-range n h) mode j)
+  -- so are the nine heights round it
+  pub nine-within : (mode : Mode) (n : ℕ) → n < countOf (widthOf m) (depthOf m) → AllWithin heightMost (nineOf mode m n)
+  unfolding contactAt
+  nine-within mode n h =
+      let w = widthOf m in
+      let d = depthOf m in
+      let c = columnOf w n in
+      let q = rowOf w n in
+      let i : Inner w d c q = inner-at w d (a .trailed .sizes .wide) n h in
+      nine-all (λ (k : Contact). natAbs (k .height) ≤ heightMost) m w (stepOf m) (centreOf mode (stepOf m) (radiusOf m) (innerPoint m n)) c q
+      (λ a b near. height-small a b (omega (arith, i .right, near .right)) (omega (arith, i .below, near .below)))
+
+  pub centre-most : (mode : Mode) (n : ℕ) → n < countOf (widthOf m) (depthOf m)
+      → (j : ℕ) → natAbs (coordinate (centreOf mode (stepOf m) (radiusOf m) (innerPoint m n)) j) ≤ 1048576
+  centre-most mode n h = coordinate-most (stepOf m) (radiusOf m) (innerPoint m n) (inner-in-range n h) mode
+
+  lifted-most : (mode : Mode) (n : ℕ) → n < countOf (widthOf m) (depthOf m)
+      → (j : ℕ) → natAbs (coordinate (centreBy Lifted mode m (widthOf m) (stepOf m) (radiusOf m) (columnOf (widthOf m) n) (rowOf (widthOf m) n)) j) ≤ 4194304
+  unfolding lifted
+  lifted-most mode n h zero = omega (arith, centre-most mode n h 0)
+  lifted-most mode n h (suc zero) = omega (arith, centre-most mode n h 1)
+  lifted-most mode n h (suc (suc j)) =
+      omega (
+        arith,
+        centre-most mode n h 2,
+        lifted-abs (radiusOf m) (nineOf mode m n) (centreOf mode (stepOf m) (radiusOf m) (innerPoint m n) .z) heightMost (nine-within mode n h),
+        a .trailed .steps .radius-most,
+      )
+
+  -- its centre has coordinates of 32 bits, by either rule
+  pub centre-small : (rule : Rule) (mode : Mode) (n : ℕ) → n < countOf (widthOf m) (depthOf m)
+      → (j : ℕ) → natAbs (coordinate (centreAt rule mode m n) j) < 2147483648
+  centre-small Touching mode n h j = rw (centre-at Touching mode m n) (omega (arith, centre-most mode n h j))
+  centre-small Lifted mode n h j = rw (centre-at Lifted mode m n) (omega (arith, lifted-most mode n h j))

@@ -1,4 +1,4 @@
--- The list call: its questions, what it answers, and what the lent buffer holds after it. Assumes nothing.
+-- The list calls: their questions, what they answer, and what the lent buffer holds after one. Assumes nothing.
 use Prim.Native.Nat.{ℕ, zero, suc, _*_}
 use mathlib.Core.Bool.{Bool, true, cond, _&&_}
 use mathlib.Core.List.{List}
@@ -7,6 +7,7 @@ use lib.ListN.{length}
 use lib.IntN.{natAbs}
 use Rattle.kinds.specs.Question.{ask, thenAsk}
 use Rattle.kinds.specs.Rounding.{isRounding, modeOf}
+use Rattle.kinds.specs.declared.Rule.{Rule}
 use Rattle.words.specs.Word.{wordAt}
 use Rattle.words.specs.Signed.{signed}
 use Rattle.words.specs.Splice.{splice}
@@ -47,6 +48,6 @@ unfoldable pub listAnswer : ℕ → List ℕ → ℕ → ℕ
 listAnswer rounding m room = cond (eqb (listRefusal rounding m room) 0) (listLength m) 0
 
 -- the lent buffer after the call: the list at its front and the caller's bytes behind it; after a "no" what it held
-unfoldable pub bufferAfter : ℕ → List ℕ → List ℕ → List ℕ
-bufferAfter rounding m out =
-    cond (eqb (listRefusal rounding m (length out)) 0) (splice 0 (listBytes (modeOf rounding) m) out) out
+unfoldable pub bufferAfter : Rule → ℕ → List ℕ → List ℕ → List ℕ
+bufferAfter rule rounding m out =
+    cond (eqb (listRefusal rounding m (length out)) 0) (splice 0 (listBytes rule (modeOf rounding) m) out) out

@@ -2,6 +2,8 @@ pub mod Limits
 pub mod Map
 pub mod Offset
 pub mod Centre
+pub mod Lift
+pub mod Lifted
 pub mod List
 pub mod Sizes
 pub mod Call

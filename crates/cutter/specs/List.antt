@@ -5,6 +5,8 @@ use mathlib.Core.List.{List, _++_}
 use lib.IntN.{ℤ}
 use Rattle.kinds.specs.Rounding.{numberOf}
 use Rattle.kinds.specs.declared.Mode.{Mode}
+use Rattle.kinds.specs.declared.Rule.{Rule}
+use Rattle.kinds.specs.declared.Rule.the-variants.{Touching, Lifted}
 use Rattle.words.specs.Word.{wordAt}
 use Rattle.words.specs.Signed.{signed}
 use Rattle.words.specs.Joined.{joined}
@@ -14,6 +16,7 @@ use Rattle.trailer.specs.declared.Kind.{Kind}
 use Rattle.trailer.specs.declared.Fields.{Fields}
 use Rattle.cutter.specs.Map.{widthOf, depthOf, stepOf, radiusOf}
 use Rattle.cutter.specs.Centre.{Point, Centre, centreOf, pointAt, recordBytes}
+use Rattle.cutter.specs.Lift.{lifted}
 
 -- how many inner points a map has
 abbrev pub countOf : ℕ → ℕ → ℕ
@@ -30,17 +33,22 @@ rowOf w n = n / (w - 2) + 1
 abbrev pub innerPoint : List ℕ → ℕ → Point
 innerPoint m n = pointAt m (widthOf m) (columnOf (widthOf m) n) (rowOf (widthOf m) n)
 
--- its centre
-unfoldable pub centreAt : Mode → List ℕ → ℕ → Centre
-centreAt mode m n = centreOf mode (stepOf m) (radiusOf m) (innerPoint m n)
+-- the centre at column c and row q of a map that is w wide, by the rule that it follows
+abbrev pub centreBy : Rule → Mode → List ℕ → ℕ → ℕ → ℕ → ℕ → ℕ → Centre
+centreBy Touching mode m w step radius c q = centreOf mode step radius (pointAt m w c q)
+centreBy Lifted mode m w step radius c q = lifted m w step radius c q (centreOf mode step radius (pointAt m w c q))
+
+-- that of the inner point n
+unfoldable pub centreAt : Rule → Mode → List ℕ → ℕ → Centre
+centreAt rule mode m n = centreBy rule mode m (widthOf m) (stepOf m) (radiusOf m) (columnOf (widthOf m) n) (rowOf (widthOf m) n)
 
 -- its record
-unfoldable pub recordAt : Mode → List ℕ → ℕ → List ℕ
-recordAt mode m n = recordBytes (centreAt mode m n)
+unfoldable pub recordAt : Rule → Mode → List ℕ → ℕ → List ℕ
+recordAt rule mode m n = recordBytes (centreAt rule mode m n)
 
 -- the records of all inner points
-unfoldable pub allRecords : Mode → List ℕ → List ℕ
-allRecords mode m = joined (recordAt mode m) (countOf (widthOf m) (depthOf m))
+unfoldable pub allRecords : Rule → Mode → List ℕ → List ℕ
+allRecords rule mode m = joined (recordAt rule mode m) (countOf (widthOf m) (depthOf m))
 
 -- the rounding that a trailer states: the number of the list's, or 0 in a kind that has none
 abbrev pub statedRounding : Bool → Mode → ℕ
@@ -60,12 +68,12 @@ listFields k mode m =
     }
 
 -- the list of a map with a trailer of a kind behind its records
-unfoldable pub listOf : Kind → Mode → List ℕ → List ℕ
-listOf k mode m = allRecords mode m ++ trailerBytes k (listFields k mode m)
+unfoldable pub listOf : Kind → Rule → Mode → List ℕ → List ℕ
+listOf k rule mode m = allRecords rule mode m ++ trailerBytes k (listFields k mode m)
 
 -- the complete list, as the call writes it, and how long it is
-abbrev pub listBytes : Mode → List ℕ → List ℕ
-listBytes mode m = listOf newList mode m
+abbrev pub listBytes : Rule → Mode → List ℕ → List ℕ
+listBytes rule mode m = listOf newList rule mode m
 
 unfoldable pub listLength : List ℕ → ℕ
 listLength m = 12 * countOf (widthOf m) (depthOf m) + lengthOf newList

@@ -41,6 +41,12 @@ impl Op {
     }
 }
 
+// The rule that the centres of a list follow.
+pub enum Rule {
+    Touching,
+    Lifted,
+}
+
 pub enum Mode {
     Nearest,
     Up,

@@ -3,10 +3,10 @@ ghost use mathlib.Core.Path.{_≡_};
 ghost use Prim.Native.Nat.{_+_, _*_, _%_, _≤_, _<_};
 ghost use lib.ListN.{length};
 ghost use lib.Dec.{leb};
-ghost use lib.IntN.{natAbs};
+ghost use lib.IntN.{natAbs, subℕ};
 ghost use Rattle.words.specs.Word.{wordAt};
-ghost use Rattle.words.specs.Signed.{signed};
-ghost use Rattle.cutter.specs.Limits.{heightMost};
+ghost use Rattle.words.specs.Signed.{signed, wordOf};
+ghost use Rattle.cutter.specs.Limits.{heightMost, differenceMost};
 ghost use Rattle.cutter.specs.Map.{trailerOf};
 ghost use Rattle.cutter.specs.Call.{heightsWithin, heightsRefusal, mapRefusal};
 ghost use Rattle.cutter.specs.Accepted.{Sizes, Heights};
@@ -81,6 +81,14 @@ pub fn biased(u: u64) -> u64
     (u + HEIGHT_MOST) % 4294967296
 }
 
+// The word of a height with the bias.
+pub fn unbiased(u: u64) -> u64
+    requires { ⌜ u < 4294967296 ⌝ }
+    ensures { λ r. ⌜ r ≡ wordOf (subℕ u heightMost) ⌝ }
+{
+    (u + 4294967296 - HEIGHT_MOST) % 4294967296
+}
+
 // The word of the height at place i, counted row by row.
 pub fn height_word(map: &[u8], i: usize, count: usize) -> u64
     requires { ⌜ i < count ⌝ }
@@ -88,4 +96,13 @@ pub fn height_word(map: &[u8], i: usize, count: usize) -> u64
     ensures { λ r. ⌜ (r ≡ wordAt (now (map .entry)) (4 * i)) × (r < 4294967296) ⌝ }
 {
     word_at(map, 4 * i)
+}
+
+// The same height with the bias.
+pub fn height_at(map: &[u8], i: usize, count: usize) -> u64
+    requires { ⌜ i < count ⌝ }
+    requires { ⌜ Heights (now map) count ⌝ }
+    ensures { λ r. ⌜ (subℕ r heightMost ≡ signed (wordAt (now (map .entry)) (4 * i))) × (r ≤ differenceMost) ⌝ }
+{
+    biased(height_word(map, i, count))
 }

@@ -9,8 +9,7 @@ ghost use Rattle.cutter.specs.Map.{Inner, dxAt, dyAt};
 ghost use Rattle.cutter.specs.Limits.{stepMost, differenceMost};
 ghost use Rattle.cutter.specs.Accepted.{Heights, Ready};
 ghost use Rattle.normals.specs.Normal.{NormalOf, Measured};
-use maps::biased;
-use maps::height_word;
+use maps::height_at;
 use trailer::Fields;
 use words::Signed;
 use words::difference;
@@ -21,10 +20,7 @@ fn slope(map: &[u8], i: usize, j: usize, count: usize) -> Signed
     requires { ⌜ Heights (now map) count ⌝ }
     ensures { λ r. ⌜ (r ≡ partsOf (signed (wordAt (now (map .entry)) (4 * i)) -ℤ signed (wordAt (now (map .entry)) (4 * j)))) × (r .magnitude ≤ differenceMost) ⌝ }
 {
-    difference(
-        biased(height_word(map, i, count)),
-        biased(height_word(map, j, count)),
-    )
+    difference(height_at(map, i, count), height_at(map, j, count))
 }
 
 // The normal by its first two components, −dx and −dy, and its squared length.

@@ -8,6 +8,7 @@ use native.Mathlib.Omega.{arith}
 use lib.ListN.{length}
 use borrow.Author.Tests.{le-leb, lt-ltb, le-ltb}
 use Rattle.kinds.specs.declared.Mode.{Mode}
+use Rattle.kinds.specs.declared.Rule.{Rule}
 use Rattle.kinds.proofs.Questions.{ask-yes, ask-no, then-next, number-most}
 use Rattle.trailer.specs.Kinds.{lengthOf, isWide, isRounded}
 use Rattle.trailer.specs.Bytes.{lastFields, endsIn, listKind, roundingEnd, InRange}
@@ -26,9 +27,9 @@ use Rattle.cutter.proofs.Entries.{list-entry}
 use Rattle.reader.specs.Reader.{listTrailer, recordsOf, readerRefusal, recordRefusal}
 
 -- a list whose trailer is of a kind that is found to be what it is
-module _ (k : Kind) (mode : Mode) (m : List ℕ) (found : listKind (listOf k mode m) ≡ k) {room : ℕ} (a : Accepted m room) where
+module _ (k : Kind) (rule : Rule) (mode : Mode) (m : List ℕ) (found : listKind (listOf k rule mode m) ≡ k) {room : ℕ} (a : Accepted m room) where
   abbrev list : List ℕ
-  list = listOf k mode m
+  list = listOf k rule mode m
 
   -- a rounding that is stated is one of the four
   stated-most : (r : Bool) → statedRounding r mode ≤ 3
@@ -54,14 +55,14 @@ module _ (k : Kind) (mode : Mode) (m : List ℕ) (found : listKind (listOf k mod
   pub written-trailer : listTrailer list ≡ listFields k mode m
   written-trailer =
       ap (λ (k : Kind). lastFields k list) found
-      ∙ ap (lastFields k) (list-parts k mode m)
-      ∙ last-own k (listFields k mode m) (allRecords mode m) in-range
+      ∙ ap (lastFields k) (list-parts k rule mode m)
+      ∙ last-own k (listFields k mode m) (allRecords rule mode m) in-range
 
   ends : endsIn (listKind list) list ≡ true
-  ends = rw (found, list-parts k mode m) (ends-own k (listFields k mode m) (allRecords mode m))
+  ends = rw (found, list-parts k rule mode m) (ends-own k (listFields k mode m) (allRecords rule mode m))
 
   long : length list ≡ 12 * countOf (widthOf m) (depthOf m) + lengthOf (listKind list)
-  long = rw found (length-of-list k mode m)
+  long = rw found (length-of-list k rule mode m)
 
   -- every question is answered "yes"
   pub written-accepted : readerRefusal list ≡ 0
@@ -93,6 +94,6 @@ module _ (k : Kind) (mode : Mode) (m : List ℕ) (found : listKind (listOf k mod
 
   -- each record is the centre's
   pub written-entry : (n j : ℕ) → n < countOf (widthOf m) (depthOf m) → j < 3
-      → entryAt list n j ≡ coordinate (centreAt mode m n) j
+      → entryAt list n j ≡ coordinate (centreAt rule mode m n) j
   written-entry n j h l =
-      subst (λ (b : List ℕ). entryAt b n j ≡ coordinate (centreAt mode m n) j) (append-nil list) (list-entry k mode m [] n j h l a)
+      subst (λ (b : List ℕ). entryAt b n j ≡ coordinate (centreAt rule mode m n) j) (append-nil list) (list-entry k rule mode m [] n j h l a)

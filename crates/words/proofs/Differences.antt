@@ -4,10 +4,10 @@ use mathlib.Core.Path.{_≡_, refl, sym, ap, _∙_}
 use mathlib.Core.Bool.{Bool, true, false}
 use Prim.Native.Nat.{ℕ, zero, suc, _+_, _-_, _*_, _%_, _≤_, _<_}
 use native.Mathlib.Omega.{arith}
-use borrow.Author.Tests.{lt-ltb, le-ltb, le-leb, lt-leb}
+use borrow.Author.Tests.{lt-ltb, le-ltb}
 use lib.Dec.{leb}
 use lib.IntN.{ℤ, pos, negsuc, natAbs, subℕ, _+ℤ_}
-pub use Rattle.numbers.proofs.Differences.{either, diff-le, diff-lt, diff-eq, diff-pos, neg-pos, diff-add, diff-sub, diff-abs, abs-neg, neg-sub, abs-add}
+pub use Rattle.numbers.proofs.Differences.{either, diff-le, diff-lt, diff-eq, diff-pos, neg-pos, diff-add, diff-sub, diff-abs, abs-neg, neg-sub, abs-add, leb-same}
 use Rattle.words.specs.Signed.{signed, wordOf, withSign, isNegative}
 use Rattle.words.specs.Parts.{partsOf}
 use Rattle.words.specs.declared.Signed.{Signed}
@@ -36,6 +36,15 @@ magnitude-is s z e = cc
 pub negative-is : (s : Signed) (z : ℤ) → s ≡ partsOf z → s .negative ≡ isNegative z
 unfolding partsOf
 negative-is s z e = cc
+
+-- and the number again
+pub sign-back : (s : Signed) (z : ℤ) → s ≡ partsOf z → withSign (s .negative) (s .magnitude) ≡ z
+unfolding partsOf withSign
+sign-back s z e = ap (λ (s : Signed). withSign (s .negative) (s .magnitude)) e ∙ go z
+  where
+    go : (z : ℤ) → withSign (isNegative z) (natAbs z) ≡ z
+    go (pos n) = refl
+    go (negsuc n) = refl
 
 -- the magnitude, whatever the sign
 pub abs-sign : (t : Bool) (g : ℕ) → natAbs (withSign t g) ≡ g
@@ -68,6 +77,14 @@ signed-word (negsuc n) h =
     let l : 4294967296 - suc n < 4294967296 = omega arith in
     simp (le-ltb (4294967296 - suc n) 2147483648 k)
     (diff-lt (4294967296 - suc n) 4294967296 l ∙ ap negsuc (omega arith))
+
+-- and a word, read and written again
+pub word-signed : (u : ℕ) → u < 4294967296 → wordOf (signed u) ≡ u
+unfolding signed
+word-signed u h =
+    either u 2147483648
+    (λ k. ap wordOf (simp (le-ltb u 2147483648 k)) ∙ diff-word u 4294967296 h (omega arith) ∙ omega arith)
+    (λ k. ap wordOf (simp (lt-ltb u 2147483648 k) (diff-pos u)) ∙ diff-word u 0 h (omega arith) ∙ omega arith)
 
 -- a word below 2^31 is the number itself
 pub signed-small : (u : ℕ) → u < 2147483648 → signed u ≡ pos u
@@ -123,16 +140,6 @@ wrapped-more t u m hu hm e =
     ∙ ap (λ (t : Bool). wordOf (signed u +ℤ withSign t m)) (sym e)
 
 -- ---- words of numbers from −h to h, with the bias h
-
--- two tests that ask the same
-pub leb-same : (a b c d : ℕ) → (a ≤ b → c ≤ d) → (c ≤ d → a ≤ b) → leb a b ≡ leb c d
-leb-same a b c d f g =
-    either b a
-    (λ h. le-leb a b h ∙ sym (le-leb c d (f h)))
-    (λ h. lt-leb a b h ∙ sym (lt-leb c d (either c (suc d) (λ k. k) (λ k. absurd (clash h (g (omega arith)))))))
-  where
-    clash : {m n : ℕ} → n < m → m ≤ n → ⊥
-    clash h k = omega arith
 
 abs-signed : (u : ℕ) → u < 4294967296
     → (u < 2147483648 → natAbs (signed u) ≡ u) × (2147483648 ≤ u → natAbs (signed u) ≡ 4294967296 - u)

@@ -1,5 +1,5 @@
 -- Laws of bytes put over bytes: stores in a row are one splice, two splices that touch are one, and what was put is read again. Assumes nothing.
-use mathlib.Core.Path.{_≡_, sym, ap, _∙_}
+use mathlib.Core.Path.{_≡_, sym, ap, ap₂, _∙_}
 use mathlib.Core.List.{List, [], _∷_, _++_, append-assoc, append-nil}
 use Prim.Native.Nat.{ℕ, _+_, _/_, _%_, _≤_, _<_}
 use native.Mathlib.Nat.{add-assoc, add-zero, zero-add, div-div-eq-div-mul, div-add-mod', mod-eq-of-lt, div-lt-iff-lt-mul}
@@ -54,6 +54,20 @@ splice-behind at n a b l l₁ e h p =
     ap (splice (at + n) b) p
     ∙ ap (λ (k : ℕ). splice (at + k) b (splice at a l)) (sym e)
     ∙ splice-splice at a b l (omega arith)
+
+-- a run over one that is as long
+pub splice-again : (at : ℕ) (a b l : List ℕ) → at ≤ length l → length a ≡ length b → splice at b (splice at a l) ≡ splice at b l
+unfolding splice
+splice-again at a b l room e =
+    let n : length (take at l) ≡ at = simp length-take (omega arith) in
+    let front : take at (take at l ++ a ++ drop (at + length a) l) ≡ take at l =
+    ap₂ take (sym n) (append-assoc (take at l) a (drop (at + length a) l)) ∙ take-append-seam (take at l) (a ++ drop (at + length a) l) in
+    let m : length (take at l ++ a) ≡ at + length b = simp (length-append, length-take) (omega arith) in
+    let back : drop (at + length b) (take at l ++ a ++ drop (at + length a) l) ≡ drop (at + length b) l =
+    ap (λ (k : ℕ). drop k (take at l ++ a ++ drop (at + length a) l)) (sym m)
+    ∙ drop-append-seam (take at l ++ a) (drop (at + length a) l)
+    ∙ ap (λ (k : ℕ). drop (at + k) l) e in
+    ap₂ (λ (f r : List ℕ). f ++ b ++ r) front back
 
 -- nothing put
 pub splice-none : (at : ℕ) (l : List ℕ) → splice at [] l ≡ l

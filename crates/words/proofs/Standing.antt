@@ -2,13 +2,13 @@
 use mathlib.Core.Path.{_≡_, sym, ap, _∙_}
 use mathlib.Core.Bool.{true}
 use mathlib.Core.List.{List, _++_, append-assoc}
-use Prim.Native.Nat.{ℕ, _+_, _≤_, _<_}
+use Prim.Native.Nat.{ℕ, _+_, _-_, _≤_, _<_}
 use native.Mathlib.Nat.{add-assoc, add-zero}
 use native.Mathlib.Omega.{arith}
 use borrow.Author.Tests.{eq-eqb}
 use lib.Dec.{lit<}
 use lib.ListN.{length, getD, take, drop, length-append, length-take, List·getD-append}
-use lib.Seq.{getD-append-add}
+use lib.Seq.{getD-append-add, getD-drop}
 use Rattle.words.specs.Word.{halfAt, wordAt, halfBytes, wordBytes, readsAt}
 use Rattle.words.specs.Splice.{splice}
 use Rattle.words.proofs.Splicing.{half-back, word-back}
@@ -31,6 +31,27 @@ stands-splice at b l h i g =
     ap (λ (x : List ℕ). getD x (at + i) 0) (append-assoc (take at l) b (drop (at + length b) l))
     ∙ ap (λ (n : ℕ). getD (take at l ++ (b ++ drop (at + length b) l)) (n + i) 0) (sym e)
     ∙ stands-between (take at l) b (drop (at + length b) l) i g
+
+-- the word from byte i of a run that stands
+pub stands-at : (m : List ℕ) (at : ℕ) (b : List ℕ) (i : ℕ) → Stands m at b → i + 4 ≤ length b → wordAt m (at + i) ≡ wordAt b i
+stands-at m at b i s h =
+    cc (s i (omega arith), s (i + 1) (omega arith), s (i + 2) (omega arith), s (i + 3) (omega arith), add-assoc at i 1, add-assoc at i 2, add-assoc at i 3)
+
+-- what stands behind a run that is put stays
+behind-byte : (at : ℕ) (b l : List ℕ) (i : ℕ) → at ≤ length l → at + length b ≤ i → getD (splice at b l) i 0 ≡ getD l i 0
+unfolding splice
+behind-byte at b l i room h =
+    let e : length (take at l ++ b) ≡ at + length b = simp (length-append, length-take) (omega arith) in
+    let j : at + length b + (i - (at + length b)) ≡ i = omega arith in
+    ap (λ (x : ℕ). getD (take at l ++ b ++ drop (at + length b) l) x 0) (sym j)
+    ∙ ap (λ (n : ℕ). getD (take at l ++ b ++ drop (at + length b) l) (n + (i - (at + length b))) 0) (sym e)
+    ∙ getD-append-add (take at l ++ b) (drop (at + length b) l) (i - (at + length b)) 0
+    ∙ getD-drop (at + length b) l (i - (at + length b)) 0
+    ∙ ap (λ (x : ℕ). getD l x 0) j
+
+pub behind-word : (at : ℕ) (b l : List ℕ) (i : ℕ) → at ≤ length l → at + length b ≤ i → wordAt (splice at b l) i ≡ wordAt l i
+behind-word at b l i room h =
+    cc (behind-byte at b l i room h, behind-byte at b l (i + 1) room (omega arith), behind-byte at b l (i + 2) room (omega arith), behind-byte at b l (i + 3) room (omega arith))
 
 -- the two parts of a run that stands
 pub stands-left : (m : List ℕ) (at : ℕ) (a b : List ℕ) → Stands m at (a ++ b) → Stands m at a

@@ -2,7 +2,7 @@
 use borrow.Author.Needs.{needs}
 use Rattle.centres.proofs.Centres.{coordinate-fits, coordinate-small, centre-is}
 use Rattle.cutter.proofs.Places.{place-in}
-use Rattle.normals.proofs.Slopes.{place-fits, line-fits}
+use Rattle.maps.proofs.Places.{place-fits, line-fits}
 use Rattle.centres.proofs.centre.Statement.{statement}
 use Rattle.centres.proofs.centre.Tie as tie
 
