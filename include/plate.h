@@ -1,11 +1,11 @@
-/* The plate unit, called from C. Document 01 and requests #101 and #102 of
-   document 02 say what each call answers.
+/* The plate unit, called from C. Document 01 and requests #101, #102 and
+   #104 of document 02 say what each call answers.
 
    Every call takes every value of its numbers and checks them itself. All but
    plate_record give one 64-bit number:
 
      bits  0 to 31   the answer, or the list's length in bytes; 0 after a refusal
-     bits 32 to 39   the new status; 0 for the raw and the list call
+     bits 32 to 39   the new status; 0 for the raw and the list calls
      bits 40 to 47   the refusal, 0 if the call was accepted
      bits 48 to 63   0
 
@@ -35,7 +35,7 @@ extern "C" {
 #define PLATE_TOWARD_ZERO 3
 
 /* What plate_record tells of a list that does not say its rounding. No call takes
-   it for a rounding: plate_list refuses it with 2. */
+   it for a rounding: the list calls refuse it with 2. */
 #define PLATE_ROUNDING_UNKNOWN 255
 
 /* Flags of the status */
@@ -67,6 +67,18 @@ uint64_t plate_binary32(uint8_t operation, uint8_t rounding, uint8_t status,
 uint64_t plate_list(uint8_t rounding, const uint8_t *map, size_t map_length,
                     uint8_t *list, size_t list_length);
 
+/* The same list with each centre lifted until the ball keeps off its neighbours.
+   x and y are those of plate_list in the same rounding. z is the least whole
+   number that is not below plate_list's z and, for each of the nine heights round
+   the point (its own too) whose level distance from x and y is below the radius,
+   at least that height plus the root of radius^2 - distance^2: always up, whatever
+   the rounding. Length, format, refusals, and what is asked of the pointers are
+   those of plate_list. A list does not say whether it is lifted. Lifted lists of
+   two roundings are not a bracket: the lower z may lie above the upper. */
+uint64_t plate_lifted_list(uint8_t rounding, const uint8_t *map,
+                           size_t map_length, uint8_t *list,
+                           size_t list_length);
+
 /* What plate_record gives: refusal 0 with the rounding and the sizes that the
    list's trailer states and the coordinates of one record; or a refusal,
    PLATE_ROUNDING_UNKNOWN, and 0 in every other place. A list that ends in CUT2
@@ -87,7 +99,7 @@ struct plate_record_reply {
 
 /* A list read back: its rounding, its sizes, and its record at an index, which
    counts from 0, row by row. The list is only read. Its length is the list's own,
-   as plate_list reported it, not that of the buffer that holds it. Refusals: 5,
+   as the list call reported it, not that of the buffer that holds it. Refusals: 5,
    12, 7, 8, 13, 2 and 14, in this order. The pointer spans the length, and is not
    null even where that is 0. */
 struct plate_record_reply plate_record(const uint8_t *list, size_t list_length,

@@ -1,9 +1,11 @@
-// Runs the list call on frames from standard input and writes what each call answers, with a digest of the buffer after it.
+// Runs both list calls on frames from standard input and writes what each call answers, with a digest of the buffer after it.
 // A frame is the map's length and the buffer's, 4 bytes each, little-endian, and the map.
 ghost use Prim.Native.Nat.{_<_};
 use libc::STDIN_FILENO;
 use libc::STDOUT_FILENO;
+use plate::ListReply;
 use plate::Rounding;
+use plate::lifted_list;
 use plate::list;
 use words::word_at;
 
@@ -43,8 +45,14 @@ fn run_map(map: &mut [u8], length: usize, out: &mut [u8], room: usize) -> bool {
     true
 }
 
-// The roundings 0 to 3, and 4, which is none.
+// The list call, and then the lifted one.
 fn run_all(map: &[u8], out: &mut [u8]) {
+    run_lists(map, out);
+    run_lifted_lists(map, out);
+}
+
+// The roundings 0 to 3, and 4, which is none.
+fn run_lists(map: &[u8], out: &mut [u8]) {
     run(0, map, out);
     run(1, map, out);
     run(2, map, out);
@@ -55,6 +63,24 @@ fn run_all(map: &[u8], out: &mut [u8]) {
 fn run(rounding: u8, map: &[u8], out: &mut [u8]) {
     fill(out);
     let reply = list(Rounding(rounding), map, out);
+    report(reply, out);
+}
+
+fn run_lifted_lists(map: &[u8], out: &mut [u8]) {
+    run_lifted(0, map, out);
+    run_lifted(1, map, out);
+    run_lifted(2, map, out);
+    run_lifted(3, map, out);
+    run_lifted(4, map, out);
+}
+
+fn run_lifted(rounding: u8, map: &[u8], out: &mut [u8]) {
+    fill(out);
+    let reply = lifted_list(Rounding(rounding), map, out);
+    report(reply, out);
+}
+
+fn report(reply: ListReply, out: &[u8]) {
     number(reply.refusal as u64, b" ");
     number(reply.length as u64, b" ");
     number(digest(out), b"\n");

@@ -1,2 +1,3 @@
 pub mod RowRecords
+pub mod LiftedRows
 pub mod Whole

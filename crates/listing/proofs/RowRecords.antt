@@ -8,11 +8,13 @@ use lib.ListN.{length}
 use mir.Val.{Fits}
 use mir.Syntax.{w64}
 use Rattle.kinds.specs.declared.Mode.{Mode}
+use Rattle.kinds.specs.declared.Rule.{Rule}
+use Rattle.kinds.specs.declared.Rule.the-variants.{Touching}
 use Rattle.words.specs.Splice.{splice}
 use Rattle.words.specs.Joined.{joined}
 use Rattle.words.proofs.Runs.{Written, written-more, written-all, room-left, length-joined, joined-rows}
 use Rattle.cutter.specs.Centre.{centreOf, pointAt, recordBytes}
-use Rattle.cutter.specs.List.{countOf, recordAt}
+use Rattle.cutter.specs.List.{countOf, centreBy, recordAt}
 use Rattle.cutter.specs.Accepted.{Sizes, Ready}
 use Rattle.cutter.specs.Map.{Inner, trailerOf}
 use Rattle.cutter.proofs.Lengths.{length-record}
@@ -40,29 +42,29 @@ place-fits w d row n s h k = omega (arith, row-most w d row s h, s .narrow)
 
 -- ---- their records
 
-length-row-record : (mode : Mode) (m : List ℕ) (k row n : ℕ) → length (rowRecord mode m k row n) ≡ 12
+pub length-row-record : (rule : Rule) (mode : Mode) (m : List ℕ) (k row n : ℕ) → length (rowRecord rule mode m k row n) ≡ 12
 unfolding rowRecord
-length-row-record mode m k row n = length-record mode m (row * k + n)
+length-row-record rule mode m k row n = length-record rule mode m (row * k + n)
 
-length-row : (mode : Mode) (m : List ℕ) (k row : ℕ) → length (rowBytes mode m k row) ≡ 12 * k
+pub length-row : (rule : Rule) (mode : Mode) (m : List ℕ) (k row : ℕ) → length (rowBytes rule mode m k row) ≡ 12 * k
 unfolding rowBytes
-length-row mode m k row = length-joined (rowRecord mode m k row) 12 (length-row-record mode m k row) k ∙ omega arith
+length-row rule mode m k row = length-joined (rowRecord rule mode m k row) 12 (length-row-record rule mode m k row) k ∙ omega arith
 
 -- the record that is put is the point's
-record-is : (mode : Mode) (m : List ℕ) (t : Fields) (n row : ℕ) → t ≡ trailerOf m → n < t .width - 2
-    → recordBytes (centreOf mode (t .step) (t .radius) (pointAt m (t .width) (n + 1) (row + 1))) ≡ rowRecord mode m (t .width - 2) row n
+pub record-is : (rule : Rule) (mode : Mode) (m : List ℕ) (t : Fields) (n row : ℕ) → t ≡ trailerOf m → n < t .width - 2
+    → recordBytes (centreBy rule mode m (t .width) (t .step) (t .radius) (n + 1) (row + 1)) ≡ rowRecord rule mode m (t .width - 2) row n
 unfolding rowRecord
-record-is mode m t n row e h =
+record-is rule mode m t n row e h =
     let k = t .width - 2 in
     let i : row * k + n ≡ n + row * k = omega arith in
     let some : 0 < k = omega arith in
     let c : (row * k + n) % k ≡ n = ap (λ (x : ℕ). x % k) i ∙ add-mul-mod-self-right n row k ∙ mod-eq-of-lt h in
     let q : (row * k + n) / k ≡ row =
     ap (λ (x : ℕ). x / k) i ∙ add-mul-div-right n row some ∙ ap (λ (x : ℕ). x + row) (div-eq-of-lt h) ∙ zero-add row in
-    cc (record-at mode m (row * k + n))
+    cc (record-at rule mode m (row * k + n))
 
 -- the bytes of a row are within those of all rows
-row-room : (k rows row n : ℕ) → row < rows → 12 * (k * rows) ≤ n → row * (12 * k) + k * 12 ≤ n
+pub row-room : (k rows row n : ℕ) → row < rows → 12 * (k * rows) ≤ n → row * (12 * k) + k * 12 ≤ n
 row-room k rows row n h r =
     let e : rows * (12 * k) ≡ 12 * (k * rows) = omega arith in
     let f : row * (12 * k) + 12 * k ≤ n = room-left (12 * k) row rows n h (omega arith) in
@@ -70,40 +72,40 @@ row-room k rows row n h r =
 
 module _ (mode : Mode) (m : List ℕ) (t : Fields) (row : ℕ) (l₀ : List ℕ) where
   pub points-more : (l l₁ : List ℕ) (n : ℕ) → 12 * countOf (t .width) (t .depth) ≤ length l₀ → row < t .depth - 2 → Ready m t
-      → Written (rowRecord mode m (t .width - 2) row) (row * (12 * (t .width - 2))) (t .width - 2) l₀ l n → n < t .width - 2
+      → Written (rowRecord Touching mode m (t .width - 2) row) (row * (12 * (t .width - 2))) (t .width - 2) l₀ l n → n < t .width - 2
       → l₁ ≡ splice (row * (12 * (t .width - 2)) + n * 12) (recordBytes (centreOf mode (t .step) (t .radius) (pointAt m (t .width) (n + 1) (row + 1)))) l
-      → length l₁ ≡ length l → Written (rowRecord mode m (t .width - 2) row) (row * (12 * (t .width - 2))) (t .width - 2) l₀ l₁ (n + 1)
+      → length l₁ ≡ length l → Written (rowRecord Touching mode m (t .width - 2) row) (row * (12 * (t .width - 2))) (t .width - 2) l₀ l₁ (n + 1)
   points-more l l₁ n h r a v more e long =
       let at = row * (12 * (t .width - 2)) in
-      written-more (rowRecord mode m (t .width - 2) row) 12 (length-row-record mode m (t .width - 2) row) at (t .width - 2) l₀ l l₁ n
+      written-more (rowRecord Touching mode m (t .width - 2) row) 12 (length-row-record Touching mode m (t .width - 2) row) at (t .width - 2) l₀ l l₁ n
       (row-room (t .width - 2) (t .depth - 2) row (length l₀) r h) v more
-      (e ∙ ap (λ (b : List ℕ). splice (at + n * 12) b l) (record-is mode m t n row (a .is) more))
+      (e ∙ ap (λ (b : List ℕ). splice (at + n * 12) b l) (record-is Touching mode m t n row (a .is) more))
       long
 
   pub point-room : (l : List ℕ) (n : ℕ) → 12 * countOf (t .width) (t .depth) ≤ length l₀ → row < t .depth - 2
-      → Written (rowRecord mode m (t .width - 2) row) (row * (12 * (t .width - 2))) (t .width - 2) l₀ l n → n < t .width - 2
+      → Written (rowRecord Touching mode m (t .width - 2) row) (row * (12 * (t .width - 2))) (t .width - 2) l₀ l n → n < t .width - 2
       → row * (12 * (t .width - 2)) + n * 12 + 12 ≤ length l
   point-room l n h r v more = omega (arith, v .long, row-room (t .width - 2) (t .depth - 2) row (length l₀) r h)
 
-  pub row-put : (l : List ℕ) (n : ℕ) → Written (rowRecord mode m (t .width - 2) row) (row * (12 * (t .width - 2))) (t .width - 2) l₀ l n
-      → t .width - 2 ≤ n → l ≡ splice (row * (12 * (t .width - 2))) (rowBytes mode m (t .width - 2) row) l₀
+  pub row-put : (l : List ℕ) (n : ℕ) → Written (rowRecord Touching mode m (t .width - 2) row) (row * (12 * (t .width - 2))) (t .width - 2) l₀ l n
+      → t .width - 2 ≤ n → l ≡ splice (row * (12 * (t .width - 2))) (rowBytes Touching mode m (t .width - 2) row) l₀
   unfolding rowBytes
-  row-put l n v h = written-all (rowRecord mode m (t .width - 2) row) (row * (12 * (t .width - 2))) (t .width - 2) l₀ l n v h
+  row-put l n v h = written-all (rowRecord Touching mode m (t .width - 2) row) (row * (12 * (t .width - 2))) (t .width - 2) l₀ l n v h
 
 -- ---- all rows
 
-module _ (mode : Mode) (m : List ℕ) (k rows : ℕ) (l₀ : List ℕ) where
-  pub rows-more : (l l₁ : List ℕ) (row : ℕ) → 12 * (k * rows) ≤ length l₀ → Written (rowBytes mode m k) 0 rows l₀ l row → row < rows
-      → l₁ ≡ splice (row * (12 * k)) (rowBytes mode m k row) l → length l₁ ≡ length l → Written (rowBytes mode m k) 0 rows l₀ l₁ (row + 1)
+module _ (rule : Rule) (mode : Mode) (m : List ℕ) (k rows : ℕ) (l₀ : List ℕ) where
+  pub rows-more : (l l₁ : List ℕ) (row : ℕ) → 12 * (k * rows) ≤ length l₀ → Written (rowBytes rule mode m k) 0 rows l₀ l row → row < rows
+      → l₁ ≡ splice (row * (12 * k)) (rowBytes rule mode m k row) l → length l₁ ≡ length l → Written (rowBytes rule mode m k) 0 rows l₀ l₁ (row + 1)
   rows-more l l₁ row h v more e long =
       let w : rows * (12 * k) ≡ 12 * (k * rows) = omega arith in
-      written-more (rowBytes mode m k) (12 * k) (length-row mode m k) 0 rows l₀ l l₁ row (omega arith) v more
-      (e ∙ ap (λ (x : ℕ). splice x (rowBytes mode m k row) l) (sym (zero-add (row * (12 * k)))))
+      written-more (rowBytes rule mode m k) (12 * k) (length-row rule mode m k) 0 rows l₀ l l₁ row (omega arith) v more
+      (e ∙ ap (λ (x : ℕ). splice x (rowBytes rule mode m k row) l) (sym (zero-add (row * (12 * k)))))
       long
 
-  pub rows-put : (l : List ℕ) (row : ℕ) → Written (rowBytes mode m k) 0 rows l₀ l row → rows ≤ row
-      → l ≡ splice 0 (joined (recordAt mode m) (k * rows)) l₀
+  pub rows-put : (l : List ℕ) (row : ℕ) → Written (rowBytes rule mode m k) 0 rows l₀ l row → rows ≤ row
+      → l ≡ splice 0 (joined (recordAt rule mode m) (k * rows)) l₀
   unfolding rowBytes rowRecord
   rows-put l row v h =
-      written-all (rowBytes mode m k) 0 rows l₀ l row v h
-      ∙ ap (λ (b : List ℕ). splice 0 b l₀) (joined-rows (recordAt mode m) k rows ∙ ap (joined (recordAt mode m)) (mul-comm rows k))
+      written-all (rowBytes rule mode m k) 0 rows l₀ l row v h
+      ∙ ap (λ (b : List ℕ). splice 0 b l₀) (joined-rows (recordAt rule mode m) k rows ∙ ap (joined (recordAt rule mode m)) (mul-comm rows k))

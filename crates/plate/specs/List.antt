@@ -1,8 +1,9 @@
--- What the list call gives back, and what the lent buffer holds after it. Assumes nothing.
+-- What the list calls give back, and what the lent buffer holds after one. Assumes nothing.
 use Prim.Native.Nat.{ℕ}
 use mathlib.Core.Path.{_≡_}
 use mathlib.Core.List.{List}
 use lib.ListN.{length}
+use Rattle.kinds.specs.declared.Rule.{Rule}
 use Rattle.cutter.specs.Call.{listRefusal, listAnswer, bufferAfter}
 use Rattle.plate.specs.declared.ListReply.{ListReply}
 
@@ -10,7 +11,7 @@ use Rattle.plate.specs.declared.ListReply.{ListReply}
 abbrev pub listReply : ℕ → List ℕ → ℕ → ListReply
 listReply rounding m room = record { refusal = listRefusal rounding m room; length = listAnswer rounding m room }
 
--- a call on the map m and a buffer that held `before` gives the reply and leaves the buffer with `after`
-pub record ListCall (rounding : ℕ) (m before : List ℕ) (reply : ListReply) (after : List ℕ) : Type 0 where
+-- a call for centres of a rule, on the map m and a buffer that held `before`, gives the reply and leaves the buffer with `after`
+pub record ListCall (rule : Rule) (rounding : ℕ) (m before : List ℕ) (reply : ListReply) (after : List ℕ) : Type 0 where
   pub answers : reply ≡ listReply rounding m (length before)
-  pub leaves : after ≡ bufferAfter rounding m before
+  pub leaves : after ≡ bufferAfter rule rounding m before

@@ -2,6 +2,7 @@
 // of the refusal; the record call gives a struct.
 ghost use mathlib.Core.Path.{_≡_};
 ghost use lib.ListN.{length};
+ghost use Rattle.kinds.specs.declared.Rule.the-variants.{Touching, Lifted};
 ghost use Rattle.significand.specs.Call.{rawRefusal, rawAnswer};
 ghost use Rattle.ieee.specs.Call.{binary32Refusal, binary32Bits, binary32Status};
 ghost use Rattle.cutter.specs.Call.{listRefusal, listAnswer, bufferAfter};
@@ -12,6 +13,7 @@ use crate::Operation;
 use crate::Rounding;
 use crate::Status;
 use crate::binary32;
+use crate::lifted_list;
 use crate::list;
 use crate::raw;
 use crate::record;
@@ -43,9 +45,19 @@ pub extern "C" fn plate_binary32(operation: u8, rounding: u8, status: u8, bits: 
 #[no_mangle]
 pub extern "C" fn plate_list(rounding: u8, map: &[u8], buffer: &mut [u8]) -> u64
     ensures { λ r. ⌜ r ≡ packed (listRefusal rounding (now (map .entry)) (length (now (buffer .entry)))) 0 (listAnswer rounding (now (map .entry)) (length (now (buffer .entry)))) ⌝ }
-    ensures { λ _. ⌜ now (buffer .exit) ≡ bufferAfter rounding (now (map .entry)) (now (buffer .entry)) ⌝ }
+    ensures { λ _. ⌜ now (buffer .exit) ≡ bufferAfter Touching rounding (now (map .entry)) (now (buffer .entry)) ⌝ }
 {
     let r = list(Rounding(rounding), map, buffer);
+    pack(r.refusal, 0, r.length as u32)
+}
+
+// The lifted list call.
+#[no_mangle]
+pub extern "C" fn plate_lifted_list(rounding: u8, map: &[u8], buffer: &mut [u8]) -> u64
+    ensures { λ r. ⌜ r ≡ packed (listRefusal rounding (now (map .entry)) (length (now (buffer .entry)))) 0 (listAnswer rounding (now (map .entry)) (length (now (buffer .entry)))) ⌝ }
+    ensures { λ _. ⌜ now (buffer .exit) ≡ bufferAfter Lifted rounding (now (map .entry)) (now (buffer .entry)) ⌝ }
+{
+    let r = lifted_list(Rounding(rounding), map, buffer);
     pack(r.refusal, 0, r.length as u32)
 }
 

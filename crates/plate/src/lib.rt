@@ -5,6 +5,7 @@ mod c;
 
 ghost use mathlib.Core.Path.{_≡_};
 ghost use Prim.Native.Nat.{_≤_};
+ghost use Rattle.kinds.specs.declared.Rule.the-variants.{Touching, Lifted};
 ghost use Rattle.trailer.specs.Kinds.{isRounded};
 ghost use Rattle.reader.specs.Reader.{recordRefusal};
 ghost use Rattle.plate.specs.Status.{raised, cleared};
@@ -15,6 +16,7 @@ ghost use Rattle.plate.specs.Record.{listRounding, refusedRecord, record
 use kinds::Flags;
 use kinds::Mode;
 use kinds::Op;
+use kinds::Rule;
 use reader::entry;
 use trailer::Kind;
 use trailer::layout_of;
@@ -141,7 +143,7 @@ pub fn binary32(
     }
 }
 
-// What the list call gives back: refusal 0 with the length of the list; or the number of a question, with length 0.
+// What a list call gives back: refusal 0 with the length of the list; or the number of a question, with length 0.
 pub struct ListReply {
     pub refusal: u8,
     pub length: usize,
@@ -150,13 +152,26 @@ pub struct ListReply {
 // The list call: the cutter's centres over a map, put at the front of the lent buffer; the bytes behind the list are kept. After a
 // refusal the buffer holds what it held.
 pub fn list(rounding: Rounding, map: &[u8], buffer: &mut [u8]) -> ListReply
-    ensures { λ r. ⌜ ListCall (rounding .0) (now (map .entry)) (now (buffer .entry)) r (now (buffer .exit)) ⌝ }
+    ensures { λ r. ⌜ ListCall Touching (rounding .0) (now (map .entry)) (now (buffer .entry)) r (now (buffer .exit)) ⌝ }
+{
+    list_by(Rule::Touching, rounding, map, buffer)
+}
+
+// The same with each centre lifted until the ball keeps off the nine heights round its point.
+pub fn lifted_list(rounding: Rounding, map: &[u8], buffer: &mut [u8]) -> ListReply
+    ensures { λ r. ⌜ ListCall Lifted (rounding .0) (now (map .entry)) (now (buffer .entry)) r (now (buffer .exit)) ⌝ }
+{
+    list_by(Rule::Lifted, rounding, map, buffer)
+}
+
+fn list_by(rule: Rule, rounding: Rounding, map: &[u8], buffer: &mut [u8]) -> ListReply
+    ensures { λ r. ⌜ ListCall rule (rounding .0) (now (map .entry)) (now (buffer .entry)) r (now (buffer .exit)) ⌝ }
 {
     let refusal = listing::refusal(rounding.0, map, buffer.len());
     if refusal != 0 {
         return ListReply { refusal, length: 0 };
     }
-    let length = listing::put_list(Mode::of(rounding.0), map, buffer);
+    let length = listing::put_list(rule, Mode::of(rounding.0), map, buffer);
     ListReply { refusal, length }
 }
 

@@ -11,6 +11,8 @@ use Rattle.trailer.specs.Bytes.{fieldsAt, lastFields, endsIn}
 use Rattle.cutter.specs.Map.{heightAt, dxAt, dyAt}
 use Rattle.cutter.specs.Offset.{floorOver, placeOver, roundedOver, offsetOf}
 use Rattle.cutter.specs.Centre.{pointAt, centreOf}
+use Rattle.numbers.specs.Least.{least}
+use Rattle.cutter.specs.Lift.{clears, meets, meetsAll, liftedOver, contactAt, threeAt, nineAt, lifted}
 use Rattle.cutter.specs.List.{centreAt, listLength}
 use Rattle.cutter.specs.Sizes.{trailerRefusal}
 use Rattle.cutter.specs.Call.{heightsWithin, heightsRefusal, mapRefusal, listRefusal}
@@ -29,7 +31,7 @@ trailer = 80 ∷ 76 ∷ 84 ∷ 49 ∷ 36 ∷ 0 ∷ 0 ∷ 0 ∷ 3 ∷ 0 ∷ 3 ∷
 -- "3 3 2000 5000" and "1 1 -1000 2000 5500", a newline behind each
 pub example : platelistText (row ++ row ++ row ++ trailer)
     ≡ 51 ∷ 32 ∷ 51 ∷ 32 ∷ 50 ∷ 48 ∷ 48 ∷ 48 ∷ 32 ∷ 53 ∷ 48 ∷ 48 ∷ 48 ∷ 10 ∷ 49 ∷ 32 ∷ 49 ∷ 32 ∷ 45 ∷ 49 ∷ 48 ∷ 48 ∷ 48 ∷ 32 ∷ 50 ∷ 48 ∷ 48 ∷ 48 ∷ 32 ∷ 53 ∷ 53 ∷ 48 ∷ 48 ∷ 10 ∷ []
-unfolding platelistText textRefusal listText sizesLine line signedDecimal decimal digitsWithin listRefusal mapRefusal trailerRefusal heightsRefusal thenAsk ask endsIn lastFields fieldsAt heightsWithin listLength signed joined centreAt centreOf pointAt heightAt dxAt dyAt offsetOf roundedOver placeOver floorOver withSign away placeBy roundedBy greatest greatestFrom
+unfolding platelistText textRefusal listText sizesLine line signedDecimal decimal digitsWithin listRefusal mapRefusal trailerRefusal heightsRefusal thenAsk ask endsIn lastFields fieldsAt heightsWithin listLength signed joined centreAt lifted nineAt threeAt contactAt liftedOver meetsAll meets clears least centreOf pointAt heightAt dxAt dyAt offsetOf roundedOver placeOver floorOver withSign away placeBy roundedBy greatest greatestFrom
 example = refl
 
 -- "refused 5" and a newline

@@ -19,6 +19,7 @@ use Rattle.words.proofs.Runs.{joined-same}
 use Rattle.trailer.specs.Kinds.{lengthOf}
 use Rattle.trailer.specs.declared.Kind.the-variants.{Plt1}
 use Rattle.trailer.specs.declared.Fields.{Fields}
+use Rattle.kinds.specs.declared.Rule.the-variants.{Lifted}
 use Rattle.cutter.specs.Map.{trailerOf, widthOf, depthOf}
 use Rattle.cutter.specs.Centre.{coordinate}
 use Rattle.cutter.specs.List.{countOf, columnOf, rowOf, centreAt, entryAt}
@@ -90,7 +91,7 @@ no-eleven m e =
 module _ (m list out : List ℕ) (room : textMost ≤ length out) where
   -- what was put, as the call says it
   text-call : (b : List ℕ) (n r : ℕ) (list₁ out₁ : List ℕ) → n ≤ length out → platelistText m ≡ b → PutAt 0 n b out r out₁
-      → list₁ ≡ cond (ltb mapMost (length m)) list (bufferAfter 0 m list) → TextCall m list out r list₁ out₁
+      → list₁ ≡ cond (ltb mapMost (length m)) list (bufferAfter Lifted 0 m list) → TextCall m list out r list₁ out₁
   text-call b n r list₁ out₁ h e p f =
       record {
         fits = omega (arith, p .most, p .same);
@@ -109,7 +110,7 @@ module _ (m list out : List ℕ) (room : textMost ≤ length out) where
   too-long r out₁ h p =
       text-call (refusedText 9) 20 r list out₁ (omega arith) (nine m h) p (rw (lt-ltb mapMost (length m) h))
 
-  module _ (few : length m ≤ mapMost) (held : listMost ≡ length list) (reply : ListReply) (list₁ : List ℕ) (c : ListCall 0 m list reply list₁) where
+  module _ (few : length m ≤ mapMost) (held : listMost ≡ length list) (reply : ListReply) (list₁ : List ℕ) (c : ListCall Lifted 0 m list reply list₁) where
     short : ltb mapMost (length m) ≡ false
     short = le-ltb mapMost (length m) few
 
@@ -117,7 +118,7 @@ module _ (m list out : List ℕ) (room : textMost ≤ length out) where
     unfolding textRefusal
     refusal-is = ap (λ (x : ListReply). x .refusal) (c .answers) ∙ rw (short, held)
 
-    made-is : list₁ ≡ cond (ltb mapMost (length m)) list (bufferAfter 0 m list)
+    made-is : list₁ ≡ cond (ltb mapMost (length m)) list (bufferAfter Lifted 0 m list)
     made-is = rw short (c .leaves)
 
     -- a refused map
@@ -139,11 +140,11 @@ module _ (m list out : List ℕ) (room : textMost ≤ length out) where
 
       -- the line of a record, by its centre
       line-is : (n : ℕ) → n < countOf (widthOf m) (depthOf m)
-          → entryLine list₁ (widthOf m - 2) n ≡ recordLine (columnOf (widthOf m) n) (rowOf (widthOf m) n) (centreAt Nearest m n)
+          → entryLine list₁ (widthOf m - 2) n ≡ recordLine (columnOf (widthOf m) n) (rowOf (widthOf m) n) (centreAt Lifted Nearest m n)
       unfolding entryLine
       line-is n h =
-          let e : (j : ℕ) → j < 3 → entryAt list₁ n j ≡ coordinate (centreAt Nearest m n) j =
-          λ j l. ap (λ (b : List ℕ). entryAt b n j) (c .leaves) ∙ list-held 0 m list accepted .entry n j h l in
+          let e : (j : ℕ) → j < 3 → entryAt list₁ n j ≡ coordinate (centreAt Lifted Nearest m n) j =
+          λ j l. ap (λ (b : List ℕ). entryAt b n j) (c .leaves) ∙ list-held Lifted 0 m list accepted .entry n j h l in
           cc (e 0 (lit< tt), e 1 (lit< tt), e 2 (lit< tt))
 
       module _ (t : Fields) (e : t ≡ trailerOf m) where

@@ -6,6 +6,7 @@ use mathlib.Core.List.{List}
 use lib.Dec.{ltb}
 use lib.ListN.{length}
 use Rattle.words.specs.Splice.{splice}
+use Rattle.kinds.specs.declared.Rule.the-variants.{Lifted}
 use Rattle.cutter.specs.Call.{bufferAfter}
 use Rattle.text.specs.Text.{mapMost, platelistText}
 
@@ -15,4 +16,4 @@ pub record TextCall (m list out : List ℕ) (r : ℕ) (list₁ out₁ : List ℕ
   pub long : r ≡ length (platelistText m)
   pub fits : r ≤ length out₁
   pub text : out₁ ≡ splice 0 (platelistText m) out
-  pub made : list₁ ≡ cond (ltb mapMost (length m)) list (bufferAfter 0 m list)
+  pub made : list₁ ≡ cond (ltb mapMost (length m)) list (bufferAfter Lifted 0 m list)

@@ -7,6 +7,7 @@ use lib.ListN.{length}
 use lib.IntN.{pos}
 use Rattle.kinds.specs.declared.Mode.the-variants.{Nearest}
 use Rattle.words.specs.Joined.{joined}
+use Rattle.kinds.specs.declared.Rule.the-variants.{Lifted}
 use Rattle.cutter.specs.Map.{widthOf, depthOf, stepOf, radiusOf}
 use Rattle.cutter.specs.Centre.{Centre}
 use Rattle.cutter.specs.List.{countOf, columnOf, rowOf, centreAt}
@@ -36,7 +37,7 @@ recordLine column row k = line (pos column ∷ pos row ∷ k .x ∷ k .y ∷ k .
 unfoldable pub listText : List ℕ → List ℕ
 listText m =
     sizesLine m
-    ++ joined (λ (n : ℕ). recordLine (columnOf (widthOf m) n) (rowOf (widthOf m) n) (centreAt Nearest m n)) (countOf (widthOf m) (depthOf m))
+    ++ joined (λ (n : ℕ). recordLine (columnOf (widthOf m) n) (rowOf (widthOf m) n) (centreAt Lifted Nearest m n)) (countOf (widthOf m) (depthOf m))
 
 -- `refused`, a space and the number
 unfoldable pub refusedText : ℕ → List ℕ

@@ -40,7 +40,7 @@ fn put_answer(map: &[u8], list: &mut [u8], out: &mut [u8]) -> usize
     if 16400 < map.len() {
         return put_refused(out, 9);
     }
-    let reply = plate::list(Rounding::NEAREST, map, list);
+    let reply = plate::lifted_list(Rounding::NEAREST, map, list);
     if reply.refusal != 0 {
         return put_refused(out, reply.refusal);
     }

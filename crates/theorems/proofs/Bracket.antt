@@ -6,6 +6,7 @@ use Prim.Native.Nat.{ℕ, _<_}
 use lib.Dec.{T}
 use lib.ListN.{length}
 use Rattle.kinds.specs.Operation.{isOperation}
+use Rattle.kinds.specs.declared.Rule.the-variants.{Touching}
 use Rattle.ieee.specs.Format.{binary32, infinity}
 use Rattle.ieee.proofs.Accepted.{accepted}
 use Rattle.ieee.proofs.Bracket.{call-bracket}
@@ -36,8 +37,8 @@ binary32-bracket operation operand a b lower upper e f r s p l =
 
 -- two accepted calls with the same map, whatever the two lent buffers held
 pub list-calls-bracket : (m a b lowest uppermost : List ℕ) (lower upper : ListReply)
-    → ListCall 2 m a lower lowest
-    → ListCall 1 m b upper uppermost
+    → ListCall Touching 2 m a lower lowest
+    → ListCall Touching 1 m b upper uppermost
     → lower .refusal ≡ 0
     → upper .refusal ≡ 0
     → ListsBracket m lower upper lowest uppermost
@@ -45,5 +46,5 @@ list-calls-bracket m a b lowest uppermost lower upper c d r s =
     let ra : listRefusal 2 m (length a) ≡ 0 = sym (ap (λ (x : ListReply). x .refusal) (c .answers)) ∙ r in
     let rb : listRefusal 1 m (length b) ≡ 0 = sym (ap (λ (x : ListReply). x .refusal) (d .answers)) ∙ s in
     let k = list-bracket m a b ra rb in
-    rw (c .answers, d .answers, c .leaves, d .leaves, list-held 2 m a ra .reported, list-held 1 m b rb .reported)
+    rw (c .answers, d .answers, c .leaves, d .leaves, list-held Touching 2 m a ra .reported, list-held Touching 1 m b rb .reported)
     (record { equal = k .equal; next = k .next; ends = k .ends })

@@ -1,3 +1,4 @@
 pub mod Bracket
 pub mod Table
 pub mod ReadBack
+pub mod Lifted

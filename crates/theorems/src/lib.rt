@@ -1,5 +1,6 @@
-// What is promised beyond one call: demand 3 of two calls, flags that stay, packed replies taken apart, and document 01's table. The code
-// does nothing: its contracts say which numbers the names of operations, roundings and flags have.
+// What is promised beyond one call: demand 3 of two calls, a lifted list beside the list before the lift, a list read back, flags that
+// stay, packed replies taken apart, and document 01's table. The code does nothing: its contracts say which numbers the names of
+// operations, roundings and flags have.
 ghost use mathlib.Core.Path.{_≡_};
 ghost use Rattle.kinds.specs.Flag.{invalid, divisionByZero, overflow, underflow, inexact};
 use plate::Flag;

@@ -8,11 +8,11 @@ use Rattle.listing.proofs.put_points.Statement.{statement}
 use Rattle.listing.proofs.put_points.Tie as tie
 
 abbrev Inv-loop : tie.InvT-loop
-Inv-loop mode map out₀ trailer rows row₀ out row =
-    Written (rowBytes mode map (trailer .width - 2)) 0 (trailer .depth - 2) out₀ out row
+Inv-loop rule mode map out₀ trailer rows row₀ out row =
+    Written (rowBytes rule mode map (trailer .width - 2)) 0 (trailer .depth - 2) out₀ out row
 
 abbrev μ-loop : tie.MeasureT-loop
-μ-loop mode map out₀ trailer rows row₀ out row = trailer .depth - 2 - row
+μ-loop rule mode map out₀ trailer rows row₀ out row = trailer .depth - 2 - row
 
 sub-rows : tie.Need-sub-rows Inv-loop μ-loop
 sub-rows c = search needs
@@ -20,8 +20,8 @@ sub-rows c = search needs
 loop-holds : tie.Need-loop-holds Inv-loop μ-loop
 loop-holds c = search written-none
 
-put-row-requires : tie.Need-put-row-requires Inv-loop μ-loop
-put-row-requires c κs = search needs
+put-row-by-requires : tie.Need-put-row-by-requires Inv-loop μ-loop
+put-row-by-requires c κs = search needs
 
 add-row : tie.Need-add-row Inv-loop μ-loop
 add-row c = search needs
@@ -41,4 +41,4 @@ returns c = search rows-put
 pub put-points-spec : {M : Type 1} → statement M
 put-points-spec =
     tie.close
-    (tie.spec Inv-loop μ-loop sub-rows loop-holds put-row-requires add-row loop-less loop-again same-length returns)
+    (tie.spec Inv-loop μ-loop sub-rows loop-holds put-row-by-requires add-row loop-less loop-again same-length returns)

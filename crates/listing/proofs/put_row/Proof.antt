@@ -1,5 +1,6 @@
 -- `listing::put_row` meets its contract: after n turns the row's first n records are put. Assumes nothing.
 use Prim.Native.Nat.{_-_, _*_}
+use Rattle.kinds.specs.declared.Rule.the-variants.{Touching}
 use borrow.Author.Needs.{needs}
 use Rattle.listing.proofs.RowRecords.{inner-of, row-fits, place-fits, points-more, point-room, row-put}
 use Rattle.listing.specs.Row.{rowRecord}
@@ -9,7 +10,7 @@ use Rattle.listing.proofs.put_row.Tie as tie
 
 abbrev Inv-loop : tie.InvT-loop
 Inv-loop mode map out₀ trailer row count first n₀ out n =
-    Written (rowRecord mode map (trailer .width - 2) row) (row * (12 * (trailer .width - 2))) (trailer .width - 2) out₀ out n
+    Written (rowRecord Touching mode map (trailer .width - 2) row) (row * (12 * (trailer .width - 2))) (trailer .width - 2) out₀ out n
 
 abbrev μ-loop : tie.MeasureT-loop
 μ-loop mode map out₀ trailer row count first n₀ out n = trailer .width - 2 - n

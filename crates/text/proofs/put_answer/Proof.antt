@@ -13,8 +13,8 @@ same-length c = search needs
 returns : tie.Need-returns
 returns c = search too-long
 
-list-requires : tie.Need-list-requires
-list-requires c κs = search needs
+lifted-list-requires : tie.Need-lifted-list-requires
+lifted-list-requires c κs = search needs
 
 put-refused-requires-2 : tie.Need-put-refused-requires-2
 put-refused-requires-2 c κs = search needs
@@ -50,7 +50,7 @@ put-answer-spec =
     put-refused-requires
     same-length
     returns
-    list-requires
+    lifted-list-requires
     put-refused-requires-2
     same-length-2
     same-length-3

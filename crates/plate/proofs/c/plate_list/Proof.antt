@@ -1,5 +1,5 @@
 -- `plate::c::plate_list` meets its contract. Assumes nothing.
-use Rattle.plate.proofs.Listed.{reply-small}
+use Rattle.plate.proofs.Listed.{reply-small, list-packed, list-left}
 use borrow.Author.Needs.{needs}
 use Rattle.plate.proofs.c.plate_list.Statement.{statement}
 use Rattle.plate.proofs.c.plate_list.Tie as tie
@@ -17,7 +17,7 @@ same-length : tie.Need-same-length
 same-length c = search needs
 
 returns : tie.Need-returns
-returns c = let l = c .before .before .before .before .list .ensures in (simp (c .pack .ensures, l .answers), l .leaves)
+returns c = (search list-packed, search list-left)
 
 pub plate-list-spec : {M : Type 1} → statement M
 plate-list-spec = tie.close (tie.spec list-requires cast-pack pack-requires same-length returns)

@@ -1,8 +1,8 @@
--- `plate::list` meets its contract: after a "no" nothing is put, and else the list. Assumes nothing.
+-- `plate::list_by` meets its contract: after a "no" nothing is put, and else the list. Assumes nothing.
 use Rattle.plate.proofs.Listed.{refused, map-accepted, answered}
 use borrow.Author.Needs.{needs}
-use Rattle.plate.proofs.list.Statement.{statement}
-use Rattle.plate.proofs.list.Tie as tie
+use Rattle.plate.proofs.list_by.Statement.{statement}
+use Rattle.plate.proofs.list_by.Tie as tie
 
 refusal-requires : tie.Need-refusal-requires
 refusal-requires c κs = search needs
@@ -22,7 +22,7 @@ same-length c = search needs
 returns-2 : tie.Need-returns-2
 returns-2 c = search answered
 
-pub list-spec : {M : Type 1} → statement M
-list-spec =
+pub list-by-spec : {M : Type 1} → statement M
+list-by-spec =
     tie.close
     (tie.spec refusal-requires returns of-requires put-list-requires same-length returns-2)

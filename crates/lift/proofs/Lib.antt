@@ -1,0 +1,5 @@
+pub mod Distances
+pub mod Places
+pub mod Records
+pub mod Reaching
+pub mod Steps

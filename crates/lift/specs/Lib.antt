@@ -1,0 +1,3 @@
+pub mod Squares
+pub mod Biased
+pub mod Record
