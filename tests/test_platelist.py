@@ -1,5 +1,5 @@
 #!/usr/bin/env python3
-"""Runs target/bin/platelist on many maps and compares what it prints with the reference.
+"""Runs target/bin/platelist on many maps and compares what it prints, the lifted list rounded to nearest, with the reference.
 
 usage: test_platelist.py      after `rt check platelist`
 

@@ -1,10 +1,10 @@
-//! The list call on a 64 x 64 map beside a Rust program that takes the machine's
-//! float root and corrects it by whole numbers. Both ask every question at the
-//! door and write the whole list.
+//! The list call and the lifted one on a 64 x 64 map beside a Rust program that
+//! takes the machine's float root and corrects it by whole numbers. Both ask every
+//! question at the door and write the whole list.
 
 use std::hint::black_box;
 
-use plate_tests::calls::list as unit;
+use plate_tests::calls::{lifted_list, list};
 use plate_tests::chance::Chance;
 
 use crate::timing::{compare, side, Side, ROUNDS};
@@ -42,19 +42,49 @@ fn offset(rounding: u8, component: i32, radius: u32, square: u64, root: f64) -> 
     (magnitude ^ sign) - sign
 }
 
+#[inline(always)]
+fn squared(n: i32) -> i64 {
+    n as i64 * n as i64
+}
+
+/// The root of n, rounded up.
+#[inline(always)]
+fn root_up(n: i64) -> i32 {
+    let m = (n as f64).sqrt() as i32 as i64;
+    let m = m - (m * m > n) as i64;
+    let m = m + ((m + 1) * (m + 1) <= n) as i64;
+    (m + (m * m < n) as i64) as i32
+}
+
+/// z lifted over the nine heights, three rows of three. The centre is x and y away
+/// from the middle one's place.
+#[inline(always)]
+fn lifted(rows: [&[i32]; 3], [x, y, z]: [i32; 3], step: i32, radius: i32) -> i32 {
+    let mut z = z;
+    for (row, along) in rows.into_iter().zip([y + step, y, y - step]) {
+        for (height, across) in row.iter().zip([x + step, x, x - step]) {
+            let rest = squared(radius) - squared(across) - squared(along);
+            if rest > 0 {
+                z = z.max(height + root_up(rest));
+            }
+        }
+    }
+    z
+}
+
 /// The whole call. Not inlined, since the library's is not either.
 #[inline(never)]
-fn float_root(rounding: u8, map: &[u8], list: &mut [u8]) -> u64 {
+fn float_root<const LIFT: bool>(rounding: u8, map: &[u8], list: &mut [u8]) -> u64 {
     match rounding {
-        0 => rounded::<0>(map, list),
-        1 => rounded::<1>(map, list),
-        2 => rounded::<2>(map, list),
-        3 => rounded::<3>(map, list),
+        0 => rounded::<0, LIFT>(map, list),
+        1 => rounded::<1, LIFT>(map, list),
+        2 => rounded::<2, LIFT>(map, list),
+        3 => rounded::<3, LIFT>(map, list),
         _ => 2 << 40,
     }
 }
 
-fn rounded<const ROUNDING: u8>(map: &[u8], list: &mut [u8]) -> u64 {
+fn rounded<const ROUNDING: u8, const LIFT: bool>(map: &[u8], list: &mut [u8]) -> u64 {
     let Some((body, trailer)) = map.split_last_chunk::<16>() else {
         return 5 << 40;
     };
@@ -96,13 +126,18 @@ fn rounded<const ROUNDING: u8>(map: &[u8], list: &mut [u8]) -> u64 {
             let dx = middle[c + 1] - middle[c - 1];
             let dy = below[c] - above[c];
             let up = 2 * step as i32;
-            let squared = |n: i32| (n as i64 * n as i64) as u64;
-            let square = squared(dx) + squared(dy) + squared(up);
+            let square = (squared(dx) + squared(dy) + squared(up)) as u64;
             let root = (square as f64).sqrt();
             let at = |component| offset(ROUNDING, component, radius as u32, square, root);
-            record[0..4].copy_from_slice(&((c * step) as i32 + at(-dx)).to_le_bytes());
-            record[4..8].copy_from_slice(&((row * step) as i32 + at(-dy)).to_le_bytes());
-            record[8..12].copy_from_slice(&(middle[c] + at(up)).to_le_bytes());
+            let (x, y) = (at(-dx), at(-dy));
+            let mut z = middle[c] + at(up);
+            if LIFT {
+                let rows = [above, middle, below].map(|row| &row[c - 1..c + 2]);
+                z = lifted(rows, [x, y, z], step as i32, radius as i32);
+            }
+            record[0..4].copy_from_slice(&((c * step) as i32 + x).to_le_bytes());
+            record[4..8].copy_from_slice(&((row * step) as i32 + y).to_le_bytes());
+            record[8..12].copy_from_slice(&z.to_le_bytes());
         }
     }
     end[0..4].copy_from_slice(b"CUT2");
@@ -135,17 +170,24 @@ pub fn run() {
     println!(
         "list: ns a call, 64 x 64 map of 16,400 bytes, list of {LENGTH} bytes, best of {ROUNDS} rounds;\n\
          \x20 ratio is unit / other. Neither side's buffer is cleared between calls, except\n\
-         \x20 in the lines \"cleared\", where both are filled with zeros inside the timed call"
+         \x20 in the lines \"cleared\", where both are filled with zeros inside the timed call.\n\
+         \x20 In the lines \"lifted\" both write the lifted list, and \"first\" is the unit's\n\
+         \x20 first call"
     );
     for (name, map) in [("plate", &plate), ("rough", &rough), ("flat", &flat)] {
         for (rounding, of) in ["nearest", "up", "down", "toward zero"].iter().enumerate() {
             let rounding = rounding as u8;
-            check(rounding, map, &mut chance);
-            let sides = |clear| vec![timed("unit", unit, rounding, map, clear), timed("float root", float_root, rounding, map, clear)];
+            check(list, float_root::<false>, rounding, map, &mut chance);
+            check(lifted_list, float_root::<true>, rounding, map, &mut chance);
+            let side = |name, call, clear| timed(name, call, rounding, map, clear);
+            let sides = |clear| vec![side("unit", list, clear), side("float root", float_root::<false>, clear)];
             compare(&format!("{name}, {of}"), 1, sides(false));
             if rounding == 0 && name == "plate" {
                 compare(&format!("{name}, {of}, cleared"), 1, sides(true));
             }
+            let sides = [("unit", lifted_list as Call), ("first", list), ("float root", float_root::<true>)];
+            let sides = sides.map(|(name, call)| side(name, call, false));
+            compare(&format!("{name}, {of}, lifted"), 1, sides.into());
         }
     }
     println!();
@@ -166,7 +208,7 @@ fn timed<'a>(name: &'static str, call: Call, rounding: u8, map: &'a [u8], clear:
 
 /// Both sides on the same map and the same bytes, byte for byte, and on many
 /// small maps.
-fn check(rounding: u8, map: &[u8], chance: &mut Chance) {
+fn check(unit: Call, float_root: Call, rounding: u8, map: &[u8], chance: &mut Chance) {
     let mut both = |map: &[u8], room: usize| {
         let lent = chance.bytes(room);
         let (mut left, mut right) = (lent.clone(), lent);

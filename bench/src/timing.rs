@@ -41,7 +41,7 @@ pub fn compare(name: &str, count: usize, mut sides: Vec<Side>) {
             least[k] = least[k].min(nanoseconds / (passes[k] as f64 * count as f64));
         }
     }
-    print!("  {name:<24} {} {:9.2}", sides[0].0, least[0]);
+    print!("  {name:<26} {} {:9.2}", sides[0].0, least[0]);
     for k in 1..sides.len() {
         print!("   {} {:9.2}  ratio {:6.2}", sides[k].0, least[k], least[0] / least[k]);
     }

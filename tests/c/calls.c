@@ -1,6 +1,6 @@
 /* The calls through include/plate.h: rows of document 01's table, its example
-   written and read back, the example as document 01 writes it, and a refusal of
-   each call.
+   written by both list calls and read back, the example as document 01 writes it,
+   a record that is lifted, and a refusal of each call.
 
      cc -std=c99 -Wall -Wextra -Werror -Iinclude tests/c/calls.c target/staticlib/libplate.a
 */
@@ -52,7 +52,7 @@ static const uint8_t map[52] = {
 };
 
 /* One record, -1000 2000 5500, and the trailer up to the rounding. The offsets are
-   whole, so every rounding has this record. */
+   whole, so every rounding has this record, and nothing lifts it. */
 static const uint8_t list[28] = {
     0x18, 0xFC, 0xFF, 0xFF, 0xD0, 0x07, 0, 0, 0x7C, 0x15, 0, 0,
     'C', 'U', 'T', '2', 12, 0, 0, 0, 3, 0, 3, 0, 0xD0, 0x07, 0x88, 0x13,
@@ -71,10 +71,25 @@ static const uint8_t apart[42] = {
     'C', 'U', 'T', '2', 24, 0, 0, 0, 4, 0, 3, 0, 0xD0, 0x07, 0x88, 0x13, 2, 0,
 };
 
+/* 3 x 3, flat but for the left height, which is 1; step 1, radius 3. To nearest, x is 2
+   and z 3, and the left height, at 2, asks for 1 plus the root of 5. */
+static const uint8_t lifting[52] = {
+    0, 0, 0, 0, 0, 0, 0, 0, 0, 0, 0, 0,
+    1, 0, 0, 0, 0, 0, 0, 0, 0, 0, 0, 0,
+    0, 0, 0, 0, 0, 0, 0, 0, 0, 0, 0, 0,
+    'P', 'L', 'T', '1', 36, 0, 0, 0, 3, 0, 3, 0, 1, 0, 3, 0,
+};
+
+typedef uint64_t list_call(uint8_t rounding, const uint8_t *map, size_t map_length,
+                           uint8_t *list, size_t list_length);
+
+static list_call *const list_calls[2] = {plate_list, plate_lifted_list};
+
 int main(void)
 {
     uint8_t buffer[31];
     uint8_t rounding;
+    int k;
 
     /* The reply keeps its length and its older places. */
     if (sizeof(struct plate_record_reply) != 32 || offsetof(struct plate_record_reply, rounding) != 1
@@ -91,20 +106,27 @@ int main(void)
     EXPECT(plate_binary32(PLATE_INVERSE_ROOT, PLATE_NEAREST, 0, 0x40800000), 0x3F000000, 0, 0);
     EXPECT(plate_binary32(PLATE_ROOT, 4, 255, 0x40000000), 0, 255, 2);
 
-    memset(buffer, 0xAA, sizeof buffer);
-    EXPECT(plate_list(PLATE_NEAREST, map, sizeof map, buffer, 29), 0, 0, 11);
-    EXPECT(plate_list(PLATE_NEAREST, map, sizeof map, buffer, 28), 0, 0, 11);
-    EXPECT(plate_list(PLATE_NEAREST, map, 15, buffer, sizeof buffer), 0, 0, 5);
-    EXPECT(plate_list(4, map, sizeof map, buffer, sizeof buffer), 0, 0, 2);
-    if (buffer[0] != 0xAA || buffer[28] != 0xAA || buffer[29] != 0xAA)
-        return 1;
+    for (k = 0; k < 2; k++) {
+        list_call *call = list_calls[k];
 
-    /* x is negative. The buffer's last byte is not of the list. */
-    for (rounding = PLATE_NEAREST; rounding <= PLATE_TOWARD_ZERO; rounding++) {
-        EXPECT(plate_list(rounding, map, sizeof map, buffer, sizeof buffer), 30, 0, 0);
-        if (memcmp(buffer, list, sizeof list) != 0 || buffer[28] != rounding || buffer[29] != 0 || buffer[30] != 0xAA)
+        memset(buffer, 0xAA, sizeof buffer);
+        EXPECT(call(PLATE_NEAREST, map, sizeof map, buffer, 29), 0, 0, 11);
+        EXPECT(call(PLATE_NEAREST, map, sizeof map, buffer, 28), 0, 0, 11);
+        EXPECT(call(PLATE_NEAREST, map, 15, buffer, sizeof buffer), 0, 0, 5);
+        EXPECT(call(4, map, sizeof map, buffer, sizeof buffer), 0, 0, 2);
+        if (buffer[0] != 0xAA || buffer[28] != 0xAA || buffer[29] != 0xAA)
             return 1;
-        EXPECT_RECORD(plate_record(buffer, 30, 0), 0, rounding, 3, 3, 2000, 5000, -1000, 2000, 5500);
+
+        /* x is negative. The buffer's last byte is not of the list. */
+        for (rounding = PLATE_NEAREST; rounding <= PLATE_TOWARD_ZERO; rounding++) {
+            EXPECT(call(rounding, map, sizeof map, buffer, sizeof buffer), 30, 0, 0);
+            if (memcmp(buffer, list, sizeof list) != 0 || buffer[28] != rounding || buffer[29] != 0 || buffer[30] != 0xAA)
+                return 1;
+            EXPECT_RECORD(plate_record(buffer, 30, 0), 0, rounding, 3, 3, 2000, 5000, -1000, 2000, 5500);
+        }
+
+        EXPECT(call(PLATE_NEAREST, lifting, sizeof lifting, buffer, sizeof buffer), 30, 0, 0);
+        EXPECT_RECORD(plate_record(buffer, 30, 0), 0, PLATE_NEAREST, 3, 3, 1, 3, 2, 1, k == 0 ? 3 : 4);
     }
     EXPECT(plate_list(PLATE_UP, map, sizeof map, buffer, 30), 30, 0, 0);
     EXPECT_REFUSED(plate_record(buffer, 30, 1), 14);

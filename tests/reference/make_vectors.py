@@ -14,10 +14,11 @@ call_vectors      stdin  r operation significand parity
                   tests/public/*.txt stand last, with their published answers
 list_vectors      stdin  binary frames: u32 length of the map, u32 length of the
                   buffer, both little-endian, then the map
-                  stdout refusal length digest, a line for each frame and each
-                  of the roundings 0, 1, 2, 3 and 4. Byte j of the buffer holds
-                  (7j + 3) mod 256 before each call; digest() is taken over the
-                  whole buffer after it
+                  stdout refusal length digest, ten lines for each frame: the
+                  first call in the roundings 0, 1, 2, 3 and 4, then the lifted
+                  one. Byte j of the buffer holds (7j + 3) mod 256 before each
+                  call; digest() is taken over the whole buffer after it. The
+                  frames of #104 stand last
 record_vectors    stdin  binary frames: u32 length of the list, u32 number of
                   indexes, both little-endian, then the list, then the indexes,
                   8 bytes each, little-endian
@@ -252,11 +253,14 @@ WHOLE_NORMALS = [
 ]
 
 
-def list_frames():
-    chance = random.Random("list")
+def fitting(rows, **others):
+    """A frame with the shortest buffer that holds the list."""
+    return make_map(rows, **others), exact_length(rows)
 
-    def fitting(rows, **others):
-        return make_map(rows, **others), exact_length(rows)
+
+def old_frames():
+    """The frames from before #104, as they were."""
+    chance = random.Random("list")
 
     def some_size(most):
         return chance.randint(3, most), chance.randint(3, most)
@@ -395,6 +399,116 @@ def list_frames():
             yield make_map(rows, **settings), 29 if 11 in chosen else 30
 
 
+def at_places(places, height, base=0):
+    """3 x 3 heights, one of them at these places, counted row by row, the other elsewhere."""
+    return [[height if 3 * row + c in places else base for c in range(3)] for row in range(3)]
+
+
+def bowl(w, d, rise):
+    """Higher by the square of the way from the middle, so that all neighbours stand out."""
+    return [[rise * ((2 * c - w + 1)**2 + (2 * row - d + 1)**2) // 4 for c in range(w)]
+            for row in range(d)]
+
+
+SIDES, CORNERS, OWN = (1, 3, 5, 7), (0, 2, 6, 8), 4
+
+
+def lift_frames():
+    """Maps for #104: what lifts z, and what nearly does."""
+    chance = random.Random("lift")
+
+    # One place alone, high or low, the own one too. All numbers 1, then larger.
+    for place in range(9):
+        for step, radius, height in (
+                (1, 1, 1), (1, 1, -1), (1, 2, 1), (1, 3, 1), (2, 2, -4), (1000, 3000, 1000),
+                (1000, 1400, 800), (6000, 12500, 2000), (1, 12500, 50000), (10000, 12500, 50000),
+                (10000, 12500, -50000), (1, 1, 50000)):
+            yield fitting(at_places((place,), height), step=step, radius=radius)
+
+    # Two sides that face each other leave x and y whole, at the step's distance; corners
+    # do too, at the root of 2 times it. At the radius and one step to both sides of it.
+    for radius in (1, 2, 5, 1000, 9999):
+        for places in ((3, 5), (1, 7)):
+            for step in (radius - 1, radius, radius + 1):
+                if step > 0:
+                    yield fitting(at_places(places, 50000), step=step, radius=radius)
+    # The squares of a corner's distance and of the radius differ by 1.
+    for step, radius in ((2, 3), (12, 17), (408, 577), (2378, 3363), (5, 7), (29, 41), (985, 1393),
+                         (5741, 8119)):
+        yield fitting(at_places((chance.choice(CORNERS),), 20000), step=step, radius=radius)
+    # A corner at 3 and 4 from the rounded centre: at the radius, or not, as it is rounded.
+    for k in (1, 50, 2500):
+        rows = at_places((0,), 30000)
+        rows[1][2] = 2 * k
+        yield fitting(rows, step=4 * k, radius=5 * k)
+        yield fitting([list(column) for column in zip(*rows)], step=4 * k, radius=5 * k)
+
+    # Roots that are whole, one more than whole squares and one less, by two sides or by
+    # four corners.
+    for step, radius in ((3, 5), (4, 5), (5, 13), (7500, 12500), (9900, 10101), (99, 4901),
+                         (5000, 5001), (4999, 5000), (9800, 9801), (9799, 9800), (100, 5001),
+                         (1, 12500)):
+        yield fitting(at_places((3, 5), 7000), step=step, radius=radius)
+        yield fitting(at_places(SIDES, -7000, -8000), step=step, radius=radius)
+    for step, radius in ((100, 10001), (7, 9), (2, 3), (50, 2501), (1, 12500), (6, 11)):
+        yield fitting(at_places(CORNERS, 1), step=step, radius=radius)
+
+    # The largest and the least z, and a lift from one to the other.
+    yield fitting(flat(3, 3, 50000), step=1, radius=12500)
+    yield fitting(at_places(CORNERS, 50000, -50000), step=1, radius=12500)
+    yield fitting(at_places((OWN,), -50000, 50000), step=1, radius=12500)
+    yield fitting(at_places((OWN,), -50000, 50000), step=8838, radius=12500)
+    yield fitting(at_places((OWN,), -50000, 50000), step=8839, radius=12500)
+    yield fitting(at_places((OWN,), -50000, 50000), step=10000, radius=9999)
+    yield fitting(flat(3, 3, -50000), step=10000, radius=1)
+
+    # Planes: exactly worked, the own height asks for the first z; rounded, for more.
+    for _ in range(20):
+        k = chance.choice((1, 5, 40, 3000))
+        rows = plane(3, chance.randint(3, 4), chance.randint(-k, k), chance.randint(-k, k))
+        yield fitting(rows, step=chance.randint(1, k + 1), radius=chance.randint(1, 3 * k + 1))
+
+    # Steep: cliffs along a row, along a column and across.
+    for step, radius in ((1, 1), (1, 12500), (7, 90), (400, 5000), (3000, 12500), (10000, 12500)):
+        w, d = chance.randint(4, 6), chance.randint(4, 6)
+        low, high = sorted(chance.randint(-50000, 50000) for _ in range(2))
+        for behind in (lambda c, row: c > 1, lambda c, row: row > 1, lambda c, row: c + row > 4):
+            yield fitting([[high if behind(c, row) else low for c in range(w)] for row in range(d)],
+                          step=step, radius=radius)
+        yield fitting(steep(w, d), step=step, radius=radius)
+
+    # Arches with their recurve, and bowls.
+    for _ in range(16):
+        w, d = chance.randint(4, 9), chance.randint(4, 9)
+        yield fitting(arched(w, d, chance.choice((40, 3000, 18000, 40000))),
+                      step=chance.choice((10, 300, 2000, 6000)),
+                      radius=chance.choice((15, 900, 6000, 12500)))
+    for _ in range(10):
+        w, d = chance.randint(3, 6), chance.randint(3, 6)
+        yield fitting(bowl(w, d, chance.choice((1, 30, 1000, 3800))),
+                      step=chance.choice((1, 50, 1000, 4000)),
+                      radius=chance.choice((3, 400, 5000, 12500)))
+
+    # Small numbers throughout, where a rounding moves much: many of these have a lower
+    # z above the upper one.
+    for _ in range(60):
+        rows = rough(chance, 3, 3, chance.choice((1, 2, 4)))
+        yield fitting(rows, step=chance.randint(1, 3), radius=chance.randint(1, 5))
+
+    # Random, gentle and rough.
+    for top in (1, 10, 200, 3000, 12500, 50000):
+        for _ in range(8):
+            rows = rough(chance, chance.randint(3, 6), chance.randint(3, 6), top)
+            yield fitting(rows, step=chance.choice((1, 20, 900, 10000, chance.randint(1, 10000))),
+                          radius=chance.choice((1, 60, 4000, 12500, chance.randint(1, 12500))))
+    yield fitting(rough(chance, 30, 25, 2500), step=800, radius=7000)
+    yield fitting(rough(chance, 40, 3, 600), step=150, radius=12500)
+
+    # A list that is lifted, with other buffers.
+    for room in (0, 29, 31, 32, 100):
+        yield make_map(at_places((3,), 1000), step=1000, radius=3000), room
+
+
 def digest(some_bytes):
     value = 1
     for x in some_bytes:
@@ -404,14 +518,16 @@ def digest(some_bytes):
 
 def list_files():
     given, expected = [], []
-    for a_map, room in list_frames():
+    for a_map, room in itertools.chain(old_frames(), lift_frames()):
         assert len(a_map) <= plate.LONGEST_MAP + 1 and room <= plate.LONGEST_LIST + 1
         given.append(struct.pack("<II", len(a_map), room) + a_map)
         lent = bytes((j * 7 + 3) % 256 for j in range(room))
-        for rounding in range(5):
-            refusal, length, after = plate.cutter_list(rounding, a_map, lent)
-            assert len(after) == room
-            expected.append("%d %d %d\n" % (refusal, length, digest(after)))
+        for call in (plate.cutter_list, plate.lifted_list):
+            for rounding in range(5):
+                refusal, length, after = call(rounding, a_map, lent)
+                assert len(after) == room
+                expected.append("%d %d %d\n" % (refusal, length, digest(after)))
+    assert digest(b"".join(given[:381])) == 2971492099      # the frames before #104, unchanged
     return b"".join(given), "".join(expected).encode()
 
 

@@ -3,12 +3,13 @@
 Whole numbers and fractions only, no floats. It is written to be laid beside
 the documents, not to be fast. The order is document 01's: raw unit, binary32
 unit, map and list, questions at the door, the program platelist. Of document
-02 it has requests #101, the reader, and #102, the rounding in the list, which
-stand with the list.
+02 it has requests #101, the reader, #102, the rounding in the list, and #104,
+the lifted list, which stand with the list.
 
     raw(operation, significand, parity)            -> (refusal, answer)
     binary32(operation, rounding, bits, status)    -> (refusal, bits, status)
     cutter_list(rounding, map_bytes, buffer_bytes) -> (refusal, length, buffer)
+    lifted_list(rounding, map_bytes, buffer_bytes) -> (refusal, length, buffer)
     record(list_bytes, index)                      -> (refusal, rounding, w, d,
                                                        step, radius, x, y, z)
     platelist(input_bytes)                         -> output bytes
@@ -258,6 +259,11 @@ def centre(rounding, c, row, height, dx, dy, step, radius):
     return x, y, z
 
 
+def inner_points(w, d):
+    """Column and row of each inner point, row by row."""
+    return [(c, row) for row in range(1, d - 1) for c in range(1, w - 1)]
+
+
 def centres(rounding, map_bytes):
     """One (x, y, z) per inner point of an accepted map, row by row."""
     w, d, step, radius = sizes(map_trailer(map_bytes))
@@ -267,12 +273,34 @@ def centres(rounding, map_bytes):
         return all_heights[row * w + c]
 
     records = []
-    for row in range(1, d - 1):
-        for c in range(1, w - 1):
-            dx = height(c + 1, row) - height(c - 1, row)
-            dy = height(c, row + 1) - height(c, row - 1)
-            records.append(
-                centre(rounding, c, row, height(c, row), dx, dy, step, radius))
+    for c, row in inner_points(w, d):
+        dx = height(c + 1, row) - height(c - 1, row)
+        dy = height(c, row + 1) - height(c, row - 1)
+        records.append(
+            centre(rounding, c, row, height(c, row), dx, dy, step, radius))
+    return records
+
+
+def root_up(n):
+    """The least whole number that is not below the root of n, n above 0."""
+    return isqrt(n - 1) + 1
+
+
+def lifted_centres(rounding, map_bytes):
+    """#104: the same centres with z lifted over the nine heights round each point.
+    A height is whole, so the least whole number that is not below it plus a root
+    is it plus the root rounded up, whatever the rounding."""
+    w, d, step, radius = sizes(map_trailer(map_bytes))
+    all_heights = heights(map_bytes)
+    records = []
+    for (c, row), (x, y, z) in zip(inner_points(w, d), centres(rounding, map_bytes)):
+        for near_row in (row - 1, row, row + 1):
+            for near_c in (c - 1, c, c + 1):
+                level = (x - near_c * step)**2 + (y - near_row * step)**2
+                if level < radius**2:
+                    height = all_heights[near_row * w + near_c]
+                    z = max(z, height + root_up(radius**2 - level))
+        records.append((x, y, z))
     return records
 
 
@@ -284,31 +312,37 @@ def list_length(w, d):
     return 12 * record_count(w, d) + LIST_TRAILER
 
 
-def up_to_radius(rounding, map_bytes, letters):
+def up_to_radius(records, map_bytes, letters):
     """The list of an accepted map as far as both kinds of list have the same places."""
     records = b"".join(
         number.to_bytes(4, "little", signed=True)
-        for record in centres(rounding, map_bytes)
+        for record in records
         for number in record)
     return records + letters + len(records).to_bytes(4, "little") + map_bytes[-8:]
 
 
 def old_list(rounding, map_bytes):
     """Document 01's list, whole. No call writes it since #102."""
-    return up_to_radius(rounding, map_bytes, b"CUT1")
+    return up_to_radius(centres(rounding, map_bytes), map_bytes, b"CUT1")
 
 
-def whole_list(rounding, map_bytes):
+def whole_list(rounding, map_bytes, records_of=centres):
     """The whole list since #102, with the rounding after the radius."""
-    return up_to_radius(rounding, map_bytes, b"CUT2") + rounding.to_bytes(2, "little")
+    records = records_of(rounding, map_bytes)
+    return up_to_radius(records, map_bytes, b"CUT2") + rounding.to_bytes(2, "little")
 
 
-def cutter_list(rounding, map_bytes, buffer_bytes):
+def cutter_list(rounding, map_bytes, buffer_bytes, records_of=centres):
     refusal = list_refusal(rounding, map_bytes, len(buffer_bytes))
     if refusal:
         return refusal, 0, buffer_bytes
-    made = whole_list(rounding, map_bytes)
+    made = whole_list(rounding, map_bytes, records_of)
     return 0, len(made), made + buffer_bytes[len(made):]
+
+
+def lifted_list(rounding, map_bytes, buffer_bytes):
+    """#104: the same call, but for the records."""
+    return cutter_list(rounding, map_bytes, buffer_bytes, lifted_centres)
 
 
 def record(list_bytes, index):
@@ -432,16 +466,14 @@ LONGEST_LIST = 46146
 def platelist(input_bytes):
     if len(input_bytes) > LONGEST_MAP:
         return b"refused 9\n"
-    refusal, length, made = cutter_list(NEAREST, input_bytes, bytes(LONGEST_LIST))
+    refusal, length, made = lifted_list(NEAREST, input_bytes, bytes(LONGEST_LIST))
     if refusal:
         return b"refused %d\n" % refusal
     w, d, step, radius = sizes(map_trailer(input_bytes))
     lines = [(w, d, step, radius)]
     numbers = [signed(made[k:k + 4]) for k in range(0, length - LIST_TRAILER, 4)]
-    for row in range(1, d - 1):
-        for c in range(1, w - 1):
-            record = 3 * ((row - 1) * (w - 2) + c - 1)
-            lines.append((c, row, *numbers[record:record + 3]))
+    for index, (c, row) in enumerate(inner_points(w, d)):
+        lines.append((c, row, *numbers[3 * index:3 * index + 3]))
     return "".join(" ".join(map(str, line)) + "\n" for line in lines).encode()
 
 

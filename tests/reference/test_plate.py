@@ -1,9 +1,9 @@
 """Self-test of plate.py: python3 tests/reference/test_plate.py
 
-The expected values are typed from document 01, the reader's and the rounding's
-from requests #101 and #102 of document 02. Where a check comes from elsewhere
-(IEEE 754, the machine's own arithmetic, public vectors, counting) its comment
-says so.
+The expected values are typed from document 01, the reader's, the rounding's and
+the lift's from requests #101, #102 and #104 of document 02. Where a check comes
+from elsewhere (IEEE 754, the machine's own arithmetic, public vectors, counting,
+work on paper) its comment says so.
 """
 
 import itertools
@@ -23,6 +23,7 @@ from plate import DIVISION_BY_ZERO, DOWN, INEXACT, INVALID, INVERSE_ROOT
 from plate import NEAREST, OVERFLOW, RECIPROCAL, ROOT, TOWARD_ZERO, UNDERFLOW, UP
 
 ROUNDINGS = (NEAREST, UP, DOWN, TOWARD_ZERO)
+LIST_CALLS = (plate.cutter_list, plate.lifted_list)
 
 
 def make_map(rows, step, radius):
@@ -91,18 +92,18 @@ class Table(unittest.TestCase):
             for place in range(9):
                 rows = [[0] * 3 for _ in range(3)]
                 rows[place // 3][place % 3] = height
-                got = plate.cutter_list(NEAREST, make_map(rows, 1, 1), bytes(30))
-                self.assertEqual(got[0], refusal)
+                for call in LIST_CALLS:
+                    got = call(NEAREST, make_map(rows, 1, 1), bytes(30))
+                    self.assertEqual(got[0], refusal)
 
     def test_buffer_edges(self):
         # Two bytes more than the row has, #102.
         a_map = make_map([[0] * 3] * 3, 1, 1)
-        for rounding in ROUNDINGS:
-            self.assertEqual(plate.cutter_list(rounding, a_map, bytes(30))[:2], (0, 30))
+        for call, rounding in itertools.product(LIST_CALLS, ROUNDINGS):
+            self.assertEqual(call(rounding, a_map, bytes(30))[:2], (0, 30))
             for room in (0, 27, 28, 29):
-                self.assertEqual(plate.cutter_list(rounding, a_map, b"x" * room),
-                                 (11, 0, b"x" * room))
-            refusal, length, made = plate.cutter_list(rounding, a_map, b"x" * 40)
+                self.assertEqual(call(rounding, a_map, b"x" * room), (11, 0, b"x" * room))
+            refusal, length, made = call(rounding, a_map, b"x" * 40)
             self.assertEqual((refusal, length, made[30:]), (0, 30, b"x" * 10))
 
 
@@ -111,6 +112,13 @@ class Platelist(unittest.TestCase):
         a_map = make_map([[0, 1500, 3000]] * 3, 2000, 5000)
         self.assertEqual(plate.platelist(a_map),
                          b"3 3 2000 5000\n1 1 -1000 2000 5500\n")
+
+    def test_lifted(self):
+        # Lifted by the left neighbour and by the own height: Lift has both maps.
+        self.assertEqual(plate.platelist(make_map([[0] * 3, [1, 0, 0], [0] * 3], 1, 3)),
+                         b"3 3 1 3\n1 1 2 1 4\n")
+        self.assertEqual(plate.platelist(make_map([[0, 500, 1000]] * 3, 1000, 1000)),
+                         b"3 3 1000 1000\n1 1 553 1000 1395\n")
 
     def test_refusals(self):
         self.assertEqual(plate.platelist(b""), b"refused 5\n")
@@ -149,7 +157,9 @@ class Refusals(unittest.TestCase):
                     step=1, radius=1, height=0, room=30):
             a_map = (front + struct.pack("<i", height) * 9 + letters
                      + struct.pack("<IHHHH", distance, w, d, step, radius))
-            return plate.cutter_list(rounding, a_map, bytes(room))[0]
+            numbers = {call(rounding, a_map, bytes(room))[0] for call in LIST_CALLS}
+            self.assertEqual(len(numbers), 1)
+            return numbers.pop()
 
         # Each fault stands with every later fault, so the first must be told.
         wrong = dict(rounding=4, letters=b"CUT1", w=2, step=0, distance=35,
@@ -165,11 +175,169 @@ class Refusals(unittest.TestCase):
         self.assertEqual(refusal(step=10001), 8)
         self.assertEqual(refusal(radius=12501), 8)
         self.assertEqual(refusal(radius=0), 8)
-        self.assertEqual(plate.cutter_list(0, bytes(15), b"ab"), (5, 0, b"ab"))
-        self.assertEqual(plate.cutter_list(4, b"", b"ab"), (2, 0, b"ab"))
         # Exactly a trailer, sizes in order: there are no heights, so 9.
         trailer = b"PLT1" + struct.pack("<IHHHH", 36, 3, 3, 1, 1)
-        self.assertEqual(plate.cutter_list(0, trailer, bytes(30))[0], 9)
+        for call in LIST_CALLS:
+            self.assertEqual(call(0, bytes(15), b"ab"), (5, 0, b"ab"))
+            self.assertEqual(call(4, b"", b"ab"), (2, 0, b"ab"))
+            self.assertEqual(call(0, trailer, bytes(30))[0], 9)
+
+
+class Lift(unittest.TestCase):
+    """Document 02, "#104 Keep the ball off the neighbours". The values are worked
+    out on paper; a place is column and row."""
+
+    def check(self, rows, step, radius, rounding, x, y, z, lifted):
+        """The one record of a 3 x 3 map, before the lift and after it."""
+        a_map = make_map(rows, step, radius)
+        end = b"CUT2" + struct.pack("<IHHHHH", 12, 3, 3, step, radius, rounding)
+        for call, height in zip(LIST_CALLS, (z, lifted)):
+            self.assertEqual(call(rounding, a_map, b"x" * 32),
+                             (0, 30, struct.pack("<iii", x, y, height) + end + b"xx"))
+
+    def test_flat(self):
+        # The highest of the nine heights is the own one, straight below: z is radius.
+        for height, step, radius, rounding in itertools.product(
+                (-50000, 0, 50000), (1, 10000), (1, 12500), ROUNDINGS):
+            self.check([[height] * 3] * 3, step, radius, rounding,
+                       step, step, height + radius, height + radius)
+
+    def test_examples_of_document_01(self):
+        # Centre -1000 2000 5500. The own height has level distance 3000 and asks for
+        # 1500 + 4000; 0 1 asks for the root of 24,000,000 rounded up, 4899; 2 1 has
+        # level distance 5000, the radius. Nothing is lifted.
+        rows = [[0, 1500, 3000]] * 3
+        for rounding in ROUNDINGS:
+            self.check(rows, 2000, 5000, rounding, -1000, 2000, 5500, 5500)
+        # The offsets are -447.2 and 894.4. The own height, at 448 or 447, asks for 500
+        # plus the root of 799,296 or 800,191, which is 894.03 or 894.53; 0 1 asks
+        # for 0 plus less than 835.
+        rows = [[0, 500, 1000]] * 3
+        for rounding, x, z in ((NEAREST, 553, 1394), (UP, 553, 1395), (DOWN, 552, 1394),
+                               (TOWARD_ZERO, 553, 1394)):
+            self.check(rows, 1000, 1000, rounding, x, 1000, z, 1395)
+
+    def test_side_neighbour(self):
+        # dx -1, Q 5: the offsets are 1.34 and 2.68. 0 1, at level distance 2, asks for
+        # 1 plus the root of 5. The own height, at 1, asks for the root of 8: 3.
+        self.check([[0, 0, 0], [1, 0, 0], [0, 0, 0]], 1, 3, NEAREST, 2, 1, 3, 4)
+        # The others, by symmetry.
+        self.check([[0, 0, 0], [0, 0, 1], [0, 0, 0]], 1, 3, NEAREST, 0, 1, 3, 4)
+        self.check([[0, 1, 0], [0, 0, 0], [0, 0, 0]], 1, 3, NEAREST, 1, 2, 3, 4)
+        self.check([[0, 0, 0], [0, 0, 0], [0, 1, 0]], 1, 3, NEAREST, 1, 0, 3, 4)
+        # A thousand times as large, the offsets are 1341.6 and 2683.3. 0 1, at 2342,
+        # asks for 1000 plus the root of 3,515,036, 1874.8; but 2 1, at 342, for the root
+        # of 8,883,036, 2980.4. The highest neighbour is not the one that lifts.
+        self.check([[0, 0, 0], [1000, 0, 0], [0, 0, 0]], 1000, 3000, NEAREST,
+                   2342, 1000, 2683, 2981)
+
+    def test_neighbour_that_the_centre_lies_over(self):
+        # dx 1, Q 5: the offsets are -0.45 and 0.89. Down, the centre lies over 0 1 and
+        # the own height is at 1, the radius; 0 1 asks for 0 + 1. All numbers are 1.
+        rows = [[0, 0, 0], [0, 0, 1], [0, 0, 0]]
+        self.check(rows, 1, 1, DOWN, 0, 1, 0, 1)
+        self.check(rows, 1, 1, UP, 1, 1, 1, 1)
+
+    def test_own_height(self):
+        # The same map toward zero: the centre lies over the own height, which asks for
+        # 0 + 1, and each neighbour is at 1, the radius. No rounding, no lift: at the
+        # exact x the own height asks for the exact z.
+        self.check([[0, 0, 0], [0, 0, 1], [0, 0, 0]], 1, 1, TOWARD_ZERO, 1, 1, 0, 1)
+        # To nearest: dx 4, Q 32, both offsets are 1.41 in magnitude. The own height,
+        # at 1, asks for the root of 3; 0 1, at 1 too, for -4 and the same.
+        self.check([[0, 0, 0], [-4, 0, 0], [0, 0, 0]], 2, 2, NEAREST, 1, 2, 1, 2)
+        # Up, too: dx 7, Q 65, the offsets are -1.74 and 0.99.
+        self.check([[0, 0, 0], [-7, 0, 0], [0, 0, 0]], 2, 2, UP, 1, 2, 1, 2)
+
+    def test_corner(self):
+        # A corner is in no difference: x, y and z are whole. At the root of 2 it asks
+        # for 1 plus the root of 2.
+        for place in ((0, 0), (2, 0), (0, 2), (2, 2)):
+            rows = [[int((c, row) == place) for c in range(3)] for row in range(3)]
+            for rounding in ROUNDINGS:
+                self.check(rows, 1, 2, rounding, 1, 1, 2, 3)
+        # A thousand times as large: 1000 + 1414.2.
+        self.check([[1000, 0, 0], [0, 0, 0], [0, 0, 0]], 1000, 2000, NEAREST,
+                   1000, 1000, 2000, 2415)
+
+    def test_at_the_radius(self):
+        # Two sides of one height leave x whole, and their level distance is the step:
+        # at the radius they count for nothing; one less, 50,000 plus the root of 21.
+        rows = [[0, 0, 0], [50000, 0, 50000], [0, 0, 0]]
+        turned = [list(column) for column in zip(*rows)]
+        for rounding in ROUNDINGS:
+            for some in (rows, turned):
+                self.check(some, 10, 10, rounding, 10, 10, 10, 10)
+                self.check(some, 10, 11, rounding, 10, 10, 11, 50005)
+                self.check(some, 11, 10, rounding, 11, 11, 10, 10)
+        # dx 2, Q 68: the offsets are -1.21 and 4.85. The corner 0 0 is at -3, -4 from
+        # the rounded centre, and 5 is the radius. Down, at -2, -4, it asks for 50,000
+        # plus the root of 5.
+        rows = [[50000, 0, 0], [0, 0, 2], [0, 0, 0]]
+        self.check(rows, 4, 5, NEAREST, 3, 4, 5, 5)
+        self.check(rows, 4, 5, DOWN, 2, 4, 4, 50003)
+
+    def test_lower_above_upper(self):
+        # dx -1, Q 5: the offsets are 0.89 and 1.79. Down, 0 1 is at 1 and asks for 1
+        # plus the root of 3. Up, it is at 2, the radius; the own height, at 1, asks for
+        # the root of 3, and 2 1, straight below, for 2.
+        rows = [[0, 0, 0], [1, 0, 0], [0, 0, 0]]
+        self.check(rows, 1, 2, DOWN, 1, 1, 1, 3)
+        self.check(rows, 1, 2, UP, 2, 1, 2, 2)
+        # With radius 1, dx 1, the offsets are -0.45 and 0.89. Down, 0 1 asks for 0 + 1;
+        # up, the own height for -1 + 1.
+        rows = [[0, 0, 0], [0, -1, 1], [0, 0, 0]]
+        self.check(rows, 1, 1, DOWN, 0, 1, -1, 1)
+        self.check(rows, 1, 1, UP, 1, 1, 0, 0)
+
+    def missed(self, rows, step, radius, c, row, x, y, z):
+        """The first of the nine places that this z does not meet, by steps from the
+        point; None where it meets all."""
+        for j, k in itertools.product((-1, 0, 1), repeat=2):
+            level = (x - (c + j) * step)**2 + (y - (row + k) * step)**2
+            above = z - rows[row + k][c + j]
+            if level < radius**2 and not (above >= 0 and above**2 >= radius**2 - level):
+                return j, k
+        return None
+
+    def test_by_counting(self):
+        # z after z until all nine are met, on random maps.
+        chance = random.Random(104)
+        lifting = set()
+        for _ in range(400):
+            w, d = chance.randint(3, 6), chance.randint(3, 6)
+            step, radius = chance.choice((1, 2, 3, 10, 40)), chance.choice((1, 2, 5, 30, 90))
+            top = chance.choice((0, 1, 3, 20, 200))
+            rows = [[chance.randint(-top, top) for _ in range(w)] for _ in range(d)]
+            a_map = make_map(rows, step, radius)
+            rounding = chance.choice(ROUNDINGS)
+            points = [(c, row) for row in range(1, d - 1) for c in range(1, w - 1)]
+            expected = []
+            for point, (x, y, z) in zip(points, plate.centres(rounding, a_map)):
+                while place := self.missed(rows, step, radius, *point, x, y, z):
+                    lifting.add(place)
+                    z += 1
+                expected.append((x, y, z))
+            self.assertEqual(plate.lifted_centres(rounding, a_map), expected)
+        self.assertEqual(len(lifting), 9)
+
+    def test_same_but_for_z(self):
+        chance = random.Random(1104)
+        for w, d in ((3, 3), (3, 7), (7, 3), (5, 6), (64, 3), (3, 64)):
+            for top in (1, 4000, 50000):
+                rows = [[chance.randint(-top, top) for _ in range(w)] for _ in range(d)]
+                step, radius = chance.randint(1, 10000), chance.randint(1, 12500)
+                a_map = make_map(rows, step, radius)
+                for rounding in ROUNDINGS:
+                    lists = [call(rounding, a_map, b"y" * 9000) for call in LIST_CALLS]
+                    (_, length, before), (refusal, lifted_length, after) = lists
+                    self.assertEqual((refusal, lifted_length), (0, length))
+                    records = 12 * (w - 2) * (d - 2)
+                    self.assertEqual(before[records:], after[records:])
+                    for k in range(0, records, 12):
+                        self.assertEqual(before[k:k + 8], after[k:k + 8])
+                        self.assertLessEqual(plate.signed(before[k + 8:k + 12]),
+                                             plate.signed(after[k + 8:k + 12]))
 
 
 # Document 01's example, -1000 2000 5500 with its sizes, as document 01 writes it

@@ -29,6 +29,13 @@ extern "C" {
         list: *mut u8,
         list_length: usize,
     ) -> u64;
+    fn plate_lifted_list(
+        rounding: u8,
+        map: *const u8,
+        map_length: usize,
+        list: *mut u8,
+        list_length: usize,
+    ) -> u64;
     fn plate_record(list: *const u8, list_length: usize, index: usize) -> RecordReply;
 }
 
@@ -42,9 +49,25 @@ pub fn binary32(operation: u8, rounding: u8, status: u8, bits: u32) -> u64 {
     unsafe { plate_binary32(operation, rounding, status, bits) }
 }
 
+/// Either list call.
+#[inline(always)]
+fn with_bytes(
+    call: unsafe extern "C" fn(u8, *const u8, usize, *mut u8, usize) -> u64,
+    rounding: u8,
+    map: &[u8],
+    list: &mut [u8],
+) -> u64 {
+    unsafe { call(rounding, map.as_ptr(), map.len(), list.as_mut_ptr(), list.len()) }
+}
+
 #[inline]
 pub fn list(rounding: u8, map: &[u8], list: &mut [u8]) -> u64 {
-    unsafe { plate_list(rounding, map.as_ptr(), map.len(), list.as_mut_ptr(), list.len()) }
+    with_bytes(plate_list, rounding, map, list)
+}
+
+#[inline]
+pub fn lifted_list(rounding: u8, map: &[u8], list: &mut [u8]) -> u64 {
+    with_bytes(plate_lifted_list, rounding, map, list)
 }
 
 #[inline]

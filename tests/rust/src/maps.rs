@@ -50,7 +50,8 @@ pub fn some_sizes(chance: &mut Chance) -> (usize, usize, i64, i64) {
     (w, d, step, radius)
 }
 
-/// An accepted map: rough, gentle, steep, or a plane whose normal has a whole length.
+/// An accepted map: rough, gentle, steep, an arch or a bowl, or a plane whose normal has
+/// a whole length.
 pub fn some_map(chance: &mut Chance) -> Map {
     let (w, d, mut step, mut radius) = some_sizes(chance);
     let kind = chance.range(0, 9);
@@ -70,6 +71,14 @@ pub fn some_map(chance: &mut Chance) -> Map {
         if chance.one_in(3) {
             let place = chance.range(0, heights.len() as i64 - 1) as usize;
             heights[place] += 1;
+        }
+    } else if kind == 2 {
+        // Squares of the ways from the middle, in columns and in rows, down or up: an arch
+        // or a bowl, of any width for the radius.
+        let rise = chance.pick(&[-1, 1]) * chance.range(1, 50_000) / (w * w + d * d) as i64;
+        let square = |k: usize, n: usize| (2 * k as i64 - n as i64 + 1).pow(2);
+        for row in 0..d {
+            heights.extend((0..w).map(|column| (rise * (square(column, w) + square(row, d))) as i32));
         }
     } else {
         let top = chance.pick(&[0, 1, 2, 10, 300, 5000, 50_000]);

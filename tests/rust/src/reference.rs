@@ -1,6 +1,6 @@
 //! Document 01 in plain Rust with whole numbers, the three layers in its order, with
-//! document 02's rounding in the list (#102), and its reader (#101). Each call gives
-//! its refusal first, 0 if it was accepted.
+//! document 02's rounding in the list (#102), its lifted list (#104) and its reader
+//! (#101). Each call gives its refusal first, 0 if it was accepted.
 
 use std::cmp::Ordering;
 use std::sync::LazyLock;
@@ -308,8 +308,44 @@ pub fn centres(rounding: u8, map: &[u8]) -> Vec<[i32; 3]> {
     centres
 }
 
+/// The same centres with z lifted over the nine heights round each point (02, #104). A
+/// height counts where its level distance from the centre is below the radius.
+pub fn lifted_centres(rounding: u8, map: &[u8]) -> Vec<[i32; 3]> {
+    let (_, [w, _, step, radius]) = fields(&map[map.len() - TRAILER..]);
+    let mut centres = centres(rounding, map);
+    for (index, [x, y, z]) in centres.iter_mut().enumerate() {
+        let (left, above) = (index % (w - 2), index / (w - 2));
+        for (row, c) in (above..above + 3).flat_map(|row| (left..left + 3).map(move |c| (row, c))) {
+            let across = (*x as i64 - (c * step) as i64).unsigned_abs();
+            let along = (*y as i64 - (row * step) as i64).unsigned_abs();
+            let level = across * across + along * along;
+            let Some(rest @ 1..) = (radius as u64 * radius as u64).checked_sub(level) else {
+                continue;
+            };
+            // The root of the rest, rounded up.
+            let mut rise = rest.isqrt();
+            rise += (rise * rise < rest) as u64;
+            *z = (*z).max(i32_at(map, 4 * (row * w + c)) + rise as i32);
+        }
+    }
+    centres
+}
+
 /// Refusal and length.
 pub fn list(rounding: u8, map: &[u8], list: &mut [u8]) -> (u8, u32) {
+    write_list(centres, rounding, map, list)
+}
+
+pub fn lifted_list(rounding: u8, map: &[u8], list: &mut [u8]) -> (u8, u32) {
+    write_list(lifted_centres, rounding, map, list)
+}
+
+fn write_list(
+    centres: fn(u8, &[u8]) -> Vec<[i32; 3]>,
+    rounding: u8,
+    map: &[u8],
+    list: &mut [u8],
+) -> (u8, u32) {
     let refusal = list_refusal(rounding, map, list.len());
     if refusal != 0 {
         return (refusal, 0);

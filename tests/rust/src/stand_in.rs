@@ -18,21 +18,29 @@ extern "C" fn plate_binary32(operation: u8, rounding: u8, status: u8, bits: u32)
     pack(refusal, status, answer)
 }
 
-/// # Safety
-/// The pointers and lengths must be those of two apart, live byte ranges.
-#[no_mangle]
-unsafe extern "C" fn plate_list(
-    rounding: u8,
-    map: *const u8,
-    map_length: usize,
-    list: *mut u8,
-    list_length: usize,
-) -> u64 {
-    let map = std::slice::from_raw_parts(map, map_length);
-    let list = std::slice::from_raw_parts_mut(list, list_length);
-    let (refusal, length) = reference::list(rounding, map, list);
-    pack(refusal, 0, length)
+/// Either list call from its reference.
+macro_rules! list_call {
+    ($name:ident, $reference:path) => {
+        /// # Safety
+        /// The pointers and lengths must be those of two apart, live byte ranges.
+        #[no_mangle]
+        unsafe extern "C" fn $name(
+            rounding: u8,
+            map: *const u8,
+            map_length: usize,
+            list: *mut u8,
+            list_length: usize,
+        ) -> u64 {
+            let map = std::slice::from_raw_parts(map, map_length);
+            let list = std::slice::from_raw_parts_mut(list, list_length);
+            let (refusal, length) = $reference(rounding, map, list);
+            pack(refusal, 0, length)
+        }
+    };
 }
+
+list_call!(plate_list, reference::list);
+list_call!(plate_lifted_list, reference::lifted_list);
 
 /// # Safety
 /// The pointer and the length must be those of a live byte range.

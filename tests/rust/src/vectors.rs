@@ -47,8 +47,9 @@ fn take_frame(given: &mut &[u8]) -> (Vec<u8>, usize) {
 pub struct Frame {
     pub map: Vec<u8>,
     pub room: usize,
-    /// Refusal, length and digest for the roundings 0 to 4.
-    pub expected: Vec<[i64; 3]>,
+    /// Refusal, length and digest for the roundings 0 to 4, of the first list call and
+    /// of the lifted one.
+    pub expected: [[[i64; 3]; 5]; 2],
 }
 
 pub fn frames() -> Vec<Frame> {
@@ -61,7 +62,8 @@ pub fn frames() -> Vec<Frame> {
     let mut frames = Vec::new();
     while !given.is_empty() {
         let (map, room) = take_frame(&mut given);
-        frames.push(Frame { map, room, expected: expected.by_ref().take(5).collect() });
+        let mut line = || expected.next().unwrap();
+        frames.push(Frame { map, room, expected: [(); 2].map(|_| [(); 5].map(|_| line())) });
     }
     assert!(expected.next().is_none());
     frames

@@ -1,5 +1,5 @@
-//! plate_list against the rules of documents 01 and 02 in plain Rust:
-//! cargo test --release --test list
+//! plate_list and plate_lifted_list against the rules of documents 01 and 02 in plain
+//! Rust: cargo test --release --test list
 
 use plate_tests::chance::Chance;
 use plate_tests::maps::{damage, some_map, Map};
@@ -8,13 +8,20 @@ use plate_tests::{calls, pack, vectors};
 
 const GUARD: usize = 32;
 
+type Library = fn(u8, &[u8], &mut [u8]) -> u64;
+type Reference = fn(u8, &[u8], &mut [u8]) -> (u8, u32);
+
+/// The list call of document 01 and the lifted one.
+const CALLS: [(&str, Library, Reference); 2] =
+    [("list", calls::list, reference::list), ("lifted list", calls::lifted_list, reference::lifted_list)];
+
 /// Calls the library with a buffer that holds these bytes. The map and the bytes
 /// on both sides of the buffer must be as before.
-fn call(rounding: u8, map: &[u8], list: &mut [u8]) -> u64 {
+fn call(library: Library, rounding: u8, map: &[u8], list: &mut [u8]) -> u64 {
     let before = map.to_vec();
     let mut guarded = vec![0xA5; list.len() + 2 * GUARD];
     guarded[GUARD..GUARD + list.len()].copy_from_slice(list);
-    let given = calls::list(rounding, map, &mut guarded[GUARD..GUARD + list.len()]);
+    let given = library(rounding, map, &mut guarded[GUARD..GUARD + list.len()]);
     assert!(map == before, "the map was written");
     let (front, rest) = guarded.split_at(GUARD);
     let (middle, behind) = rest.split_at(list.len());
@@ -23,21 +30,41 @@ fn call(rounding: u8, map: &[u8], list: &mut [u8]) -> u64 {
     given
 }
 
-/// The library and the reference on the same buffer; gives the refusal.
+/// The library and the reference on the same buffer, in both calls; gives the refusal,
+/// which is the same of both.
 fn check(rounding: u8, map: &[u8], lent: &[u8]) -> u8 {
-    let mut expected = lent.to_vec();
-    let (refusal, length) = reference::list(rounding, map, &mut expected);
-    let mut list = lent.to_vec();
-    let given = call(rounding, map, &mut list);
-    let about = || {
-        let end = &map[map.len().saturating_sub(TRAILER)..];
-        format!("rounding {rounding}, {} bytes of map, trailer {end:?}, room {}", map.len(), lent.len())
-    };
-    assert_eq!(given, pack(refusal, 0, length), "{}", about());
-    if let Some(at) = (0..list.len()).find(|&at| list[at] != expected[at]) {
-        panic!("byte {at} of the buffer: {} for {}; {}", list[at], expected[at], about());
-    }
+    let [refusal, lifted] = CALLS.map(|(name, library, reference)| {
+        let mut expected = lent.to_vec();
+        let (refusal, length) = reference(rounding, map, &mut expected);
+        let mut list = lent.to_vec();
+        let given = call(library, rounding, map, &mut list);
+        let about = || {
+            let end = &map[map.len().saturating_sub(TRAILER)..];
+            let (length, room) = (map.len(), lent.len());
+            format!("{name}, rounding {rounding}, {length} bytes of map, trailer {end:?}, room {room}")
+        };
+        assert_eq!(given, pack(refusal, 0, length), "{}", about());
+        if let Some(at) = (0..list.len()).find(|&at| list[at] != expected[at]) {
+            panic!("byte {at} of the buffer: {} for {}; {}", list[at], expected[at], about());
+        }
+        refusal
+    });
+    assert_eq!(refusal, lifted);
     refusal
+}
+
+/// The whole list of an accepted map, in a buffer that holds just it.
+fn whole(library: Library, rounding: u8, map: &Map) -> Vec<u8> {
+    let mut list = vec![0x5A; map.length()];
+    assert_eq!(call(library, rounding, &map.bytes(), &mut list), pack(0, 0, map.length() as u32));
+    list
+}
+
+/// The x, y and z of each record.
+fn records(list: &[u8]) -> Vec<[i64; 3]> {
+    let entry = |record: &[u8], at: usize| i32::from_le_bytes(record[at..at + 4].try_into().unwrap()) as i64;
+    let records = list[..list.len() - LIST_TRAILER].chunks_exact(12);
+    records.map(|record| [0, 4, 8].map(|at| entry(record, at))).collect()
 }
 
 /// Damages a map in one of many ways; a few leave it acceptable.
@@ -148,19 +175,14 @@ fn every_cut_and_bit() {
 }
 
 /// Demand 3 for lists, by its own words. Since #102 the records are judged, and the
-/// trailers differ in the rounding alone.
+/// trailers differ in the rounding alone. Since #104 it is said of the first call.
 #[test]
 fn down_and_up() {
     let mut chance = Chance(7);
     let mut equal = 0;
     for _ in 0..3_000 {
         let map = some_map(&mut chance);
-        let bytes = map.bytes();
-        let lists = [DOWN, UP].map(|rounding| {
-            let mut list = chance.bytes(map.length());
-            assert_eq!(call(rounding, &bytes, &mut list), pack(0, 0, map.length() as u32));
-            list
-        });
+        let lists = [DOWN, UP].map(|rounding| whole(calls::list, rounding, &map));
         let height = |c: usize, row: usize| map.heights[row * map.w + c] as i64;
         let step = map.step as i64;
         let mut exact = true;
@@ -178,10 +200,8 @@ fn down_and_up() {
             lists.each_ref().map(|list| list.split_at(map.length() - LIST_TRAILER));
         assert_eq!(lower == upper, exact);
         equal += exact as u32;
-        for at in (0..lower.len()).step_by(4) {
-            let entry = |list: &[u8]| i32::from_le_bytes(list[at..at + 4].try_into().unwrap());
-            assert!((0..=1).contains(&(entry(upper) - entry(lower))));
-        }
+        let [below, above] = lists.each_ref().map(|list| records(list).concat());
+        assert!(below.iter().zip(&above).all(|(below, above)| (0..=1).contains(&(above - below))));
         assert_eq!(down[..16], up[..16]);
         assert_eq!((&down[16..], &up[16..]), (&[DOWN, 0][..], &[UP, 0][..]));
     }
@@ -189,19 +209,69 @@ fn down_and_up() {
     assert!(0 < equal && equal < 3000);
 }
 
+/// #104 by its own words, on what the library wrote: x, y and the trailer are those of
+/// the first call; z meets the nine heights and is not below the first z, and one less
+/// would miss one of these.
+#[test]
+fn least_z() {
+    let mut chance = Chance(8);
+    let (mut lifted, mut all) = (0, 0);
+    for _ in 0..6_000 {
+        let map = some_map(&mut chance);
+        let rounding = chance.range(0, 3) as u8;
+        let [before, after] = CALLS.map(|(_, library, _)| whole(library, rounding, &map));
+        let front = map.length() - LIST_TRAILER;
+        assert_eq!(before[front..], after[front..]);
+        let (step, square) = (map.step as i64, (map.radius as i64).pow(2));
+        for (index, (first, record)) in records(&before).iter().zip(records(&after)).enumerate() {
+            let [x, y, z] = record;
+            assert_eq!(first[..2], record[..2]);
+            let (left, above) = (index % (map.w - 2), index / (map.w - 2));
+            let met = |z: i64| {
+                z >= first[2] && (0..9).all(|k| {
+                    let (c, row) = (left + k % 3, above + k / 3);
+                    let rest = square - (x - c as i64 * step).pow(2) - (y - row as i64 * step).pow(2);
+                    let over = z - map.heights[row * map.w + c] as i64;
+                    rest <= 0 || over >= 0 && over * over >= rest
+                })
+            };
+            assert!(met(z) && !met(z - 1), "record {index}, rounding {rounding}, z {z}");
+            lifted += (z > first[2]) as u32;
+            all += 1;
+        }
+    }
+    println!("{lifted} of {all} records were lifted");
+    assert!(0 < lifted && lifted < all);
+}
+
+/// The two lifted lists are in no order. On this map the lower x is 1, and the left
+/// height, at level distance 1, asks for 1 plus the root of 3; the upper x is 2, and the
+/// left height is at level distance 2, the radius, and does not count. So the lower list
+/// has z 3 and the upper one 2. Before the lift they have 1 and 2.
+#[test]
+fn lower_above_upper() {
+    let map = Map { w: 3, d: 3, step: 1, radius: 2, heights: vec![0, 0, 0, 1, 0, 0, 0, 0, 0] };
+    let both = |library| [DOWN, UP].map(|rounding| records(&whole(library, rounding, &map)));
+    assert_eq!(both(calls::list), [[[1, 1, 1]], [[2, 1, 2]]]);
+    assert_eq!(both(calls::lifted_list), [[[1, 1, 3]], [[2, 1, 2]]]);
+}
+
 /// The file that the reference program in Python made, against both.
 #[test]
 fn vector_file() {
     for (number, frame) in vectors::frames().iter().enumerate() {
-        for (rounding, expected) in frame.expected.iter().enumerate() {
-            let mut list = vectors::lent(frame.room);
-            let (refusal, length) = reference::list(rounding as u8, &frame.map, &mut list);
-            let got = [refusal as i64, length as i64, vectors::digest(&list)];
-            assert_eq!(got, *expected, "reference, frame {number}, rounding {rounding}");
-            let mut list = vectors::lent(frame.room);
-            let given = call(rounding as u8, &frame.map, &mut list);
-            let got = [(given >> 40) as i64, (given & 0xFF_FFFF_FFFF) as i64, vectors::digest(&list)];
-            assert_eq!(got, *expected, "library, frame {number}, rounding {rounding}");
+        for ((name, library, reference), expected) in CALLS.iter().zip(&frame.expected) {
+            for (rounding, expected) in expected.iter().enumerate() {
+                let about = format!("{name}, frame {number}, rounding {rounding}");
+                let mut list = vectors::lent(frame.room);
+                let (refusal, length) = reference(rounding as u8, &frame.map, &mut list);
+                let got = [refusal as i64, length as i64, vectors::digest(&list)];
+                assert_eq!(got, *expected, "reference, {about}");
+                let mut list = vectors::lent(frame.room);
+                let given = call(*library, rounding as u8, &frame.map, &mut list);
+                let got = [(given >> 40) as i64, (given & 0xFF_FFFF_FFFF) as i64, vectors::digest(&list)];
+                assert_eq!(got, *expected, "library, {about}");
+            }
         }
     }
 }

@@ -198,12 +198,18 @@ fn damaged_lists() {
     refused.only(&[0, 2, 5, 7, 8, 12, 13, 14]);
 }
 
-/// What the list call wrote is accepted in every rounding, and the rounding and each
-/// record come back as written. Document 01's list of the same map is accepted too, with
-/// every number kept and the rounding unknown.
+type ListCall = fn(u8, &[u8], &mut [u8]) -> u64;
+type Centres = fn(u8, &[u8]) -> Vec<[i32; 3]>;
+
+/// What either list call wrote is accepted in every rounding, and the rounding and each
+/// record come back as written. A list with CUT1 and the same records is accepted too,
+/// with every number kept and the rounding unknown.
 #[test]
 fn written_lists() {
-    trials(11, 1_500, |_, chance| {
+    let calls: [(ListCall, Centres); 2] =
+        [(calls::list, reference::centres), (calls::lifted_list, reference::lifted_centres)];
+    trials(11, 3_000, |k, chance| {
+        let (library, centres) = calls[k as usize % 2];
         let map = some_map(chance);
         let bytes = map.bytes();
         let sizes = [map.w as u32, map.d as u32, map.step as u32, map.radius as u32];
@@ -211,12 +217,12 @@ fn written_lists() {
         for rounding in 0..4 {
             let room = map.length() + chance.pick(&[0, 1, 50]);
             let mut buffer = chance.bytes(room);
-            let given = calls::list(rounding, &bytes, &mut buffer);
+            let given = library(rounding, &bytes, &mut buffer);
             assert_eq!(given, pack(0, 0, map.length() as u32));
             let list = &buffer[..given as usize];
             let end = list.len() - LIST_TRAILER;
             let old = [&list[..end], b"CUT1", &list[end + 4..end + TRAILER]].concat();
-            let centres = reference::centres(rounding, &bytes);
+            let centres = centres(rounding, &bytes);
             assert_eq!(centres.len(), count);
             let every: Vec<usize> = (0..count).collect();
             for (index, reading) in call(list, &every).into_iter().enumerate() {
