@@ -98,11 +98,11 @@ module _ (m : List ℕ) (i b : ℕ) where
       cc (last-kept Plt1 m i b t, point-kept (widthOf m) (columnOf (widthOf m) n) (rowOf (widthOf m) n) h)
 
   -- the lifted record where it is none of the nine heights round the point
-  pub lifted-kept : (mode : Mode) (n : ℕ) → i + lengthOf Plt1 < length m
+  pub lifted-record-kept : (mode : Mode) (n : ℕ) → i + lengthOf Plt1 < length m
       → ((c q : ℕ) → Near (columnOf (widthOf m) n) (rowOf (widthOf m) n) c q → i / 4 ≡ q * widthOf m + c → ⊥)
       → recordAt Lifted mode (set m i b) n ≡ recordAt Lifted mode m n
   unfolding recordAt heightAt
-  lifted-kept mode n t h =
+  lifted-record-kept mode n t h =
       let e = last-kept Plt1 m i b t in
       ap recordBytes
       (same-lifted mode (set m i b) m n n (ap (λ (f : Fields). f .step) e) (ap (λ (f : Fields). f .radius) e)

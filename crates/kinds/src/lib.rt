@@ -1,4 +1,4 @@
-// The operations and the roundings by their cases, the flags by their bits, questions, and the choice between two neighbours.
+// The operations, the roundings and the rules for centres by their cases, the flags by their bits, questions, and the choice between two neighbours.
 ghost use mathlib.Core.Path.{_≡_};
 ghost use Rattle.kinds.specs.Operation.{isOperation, opOf, isReciprocal};
 ghost use Rattle.kinds.specs.Rounding.{isRounding, modeOf, numberOf, away};
@@ -41,7 +41,8 @@ impl Op {
     }
 }
 
-// The rule that the centres of a list follow.
+// The rule that the centres of a list follow: the ball touches the surface at its point (document 01), or is lifted off the heights round
+// it (document 02, #104).
 pub enum Rule {
     Touching,
     Lifted,
