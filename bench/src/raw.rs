@@ -7,9 +7,10 @@ use plate_tests::chance::Chance;
 
 use crate::timing::{compare, side, ROUNDS};
 
-/// The largest w with w * w <= t.
-const fn root(t: u128) -> i64 {
-    t.isqrt() as i64
+/// The whole number nearest to the root of n / d, never half-way: twice the root, floored,
+/// then half of it, rounded.
+const fn nearest_root(n: u128, d: u128) -> i64 {
+    ((4 * n / d).isqrt() as i64 + 1) / 2
 }
 
 const fn table(operation: u8, p: u32) -> [i64; 128] {
@@ -19,8 +20,8 @@ const fn table(operation: u8, p: u32) -> [i64; 128] {
         let r = 32_768 / (128 + k as u128);
         table[k] = match operation {
             1 => (r << 20) as i64,
-            2 => root((1 << (64 + p)) / r),
-            _ => root((r << 56) >> (8 + p)),
+            2 => nearest_root(1 << (64 + p), r),
+            _ => nearest_root(r << 56, 1 << (8 + p)),
         };
         k += 1;
     }
@@ -98,8 +99,11 @@ pub fn run() {
         });
         #[cfg(feature = "before")]
         for &y in &significands {
+            // Before #105 M of the roots was floored: up to 1 lower, and the answer up to 2.
             let given = calls::raw(operation, y, parity);
-            assert_eq!(given, crate::before::raw(operation, y, parity), "raw {operation} {y} {parity}");
+            let earlier = crate::before::raw(operation, y, parity);
+            let lower = if operation == 1 { 0 } else { 2 };
+            assert!((given - lower..=given).contains(&earlier), "raw {operation} {y} {parity}");
         }
         let sides = vec![
             unit,

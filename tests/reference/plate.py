@@ -4,7 +4,8 @@ Whole numbers and fractions only, no floats. It is written to be laid beside
 the documents, not to be fast. The order is document 01's: raw unit, binary32
 unit, map and list, questions at the door, the program platelist. Of document
 02 it has requests #101, the reader, #102, the rounding in the list, and #104,
-the lifted list, which stand with the list.
+the lifted list, which stand with the list, and #105, the nearest M, which stands
+in step 4 of the raw unit.
 
     raw(operation, significand, parity)            -> (refusal, answer)
     binary32(operation, rounding, bits, status)    -> (refusal, bits, status)
@@ -58,13 +59,23 @@ def series(operation, s, a):
     return (2**39 - 1024*s*a + 768*a2**2 + 12*a2*a3 - 5*s*h*a2) // 2048
 
 
+def nearest_root(n, d):
+    """The whole number nearest to sqrt(n / d). It is low or low + 1; their middle,
+    low + 1/2, is compared with the root by four times the squares."""
+    low = isqrt(n // d)
+    middle = (2*low + 1)**2 * d                 # against 4n
+    assert middle != 4*n                        # no tie occurs
+    return low + (middle < 4*n)
+
+
 def multiplier(operation, r, p):
-    """Step 4: M. The largest w with w*w <= t is isqrt(floor(t))."""
+    """Step 4: M. Since #105 M of both roots is the whole number nearest to the exact
+    one, whose square document 01 gives by w*w*R = 2**(64+p) and w*w*2**(8+p) = R*2**56."""
     if operation == RECIPROCAL:
         return r * 2**20
     if operation == ROOT:
-        return isqrt(2**(64 + p) // r)
-    return isqrt(r * 2**56 // 2**(8 + p))
+        return nearest_root(2**(64 + p), r)
+    return nearest_root(r * 2**56, 2**(8 + p))
 
 
 def raw(operation, significand, parity):

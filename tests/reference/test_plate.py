@@ -1,9 +1,9 @@
 """Self-test of plate.py: python3 tests/reference/test_plate.py
 
-The expected values are typed from document 01, the reader's, the rounding's and
-the lift's from requests #101, #102 and #104 of document 02. Where a check comes
-from elsewhere (IEEE 754, the machine's own arithmetic, public vectors, counting,
-work on paper) its comment says so.
+The expected values are typed from document 01, the reader's, the rounding's, the
+lift's and the nearest M's from requests #101, #102, #104 and #105 of document 02.
+Where a check comes from elsewhere (IEEE 754, the machine's own arithmetic, public
+vectors, counting, work on paper) its comment says so.
 """
 
 import itertools
@@ -12,11 +12,14 @@ import random
 import struct
 import sys
 import unittest
+from decimal import Decimal, localcontext
+from fractions import Fraction
 from pathlib import Path
 
 sys.dont_write_bytecode = True
 sys.path.append(str(Path(__file__).resolve().parent.parent / "public"))
 
+import make_vectors
 import plate
 import vectors
 from plate import DIVISION_BY_ZERO, DOWN, INEXACT, INVALID, INVERSE_ROOT
@@ -105,6 +108,68 @@ class Table(unittest.TestCase):
                 self.assertEqual(call(rounding, a_map, b"x" * room), (11, 0, b"x" * room))
             refusal, length, made = call(rounding, a_map, b"x" * 40)
             self.assertEqual((refusal, length, made[30:]), (0, 30, b"x" * 10))
+
+
+class Multipliers(unittest.TestCase):
+    """#105: M of both roots, all 512 entries."""
+
+    # Operation, parity, and the square of the exact M as a fraction by R: document 01
+    # has w * w * R against 2**(64 + p), and w * w * 2**(8 + p) against R * 2**56.
+    TABLES = ((ROOT, 0, lambda r: Fraction(2**64, r)),
+              (ROOT, 1, lambda r: Fraction(2**65, r)),
+              (INVERSE_ROOT, 0, lambda r: Fraction(r * 2**56, 2**8)),
+              (INVERSE_ROOT, 1, lambda r: Fraction(r * 2**56, 2**9)))
+
+    def entries(self, operation, p, square):
+        """M and the exact one's square, for i from 128 to 255."""
+        for r in (32768 // i for i in range(128, 256)):
+            yield plate.multiplier(operation, r, p), square(r)
+
+    def test_nearest(self):
+        # By 60 digits of the exact one. It is more than 2**-45 away from any half.
+        with localcontext() as context:
+            context.prec = 60
+            for table in self.TABLES:
+                for m, square in self.entries(*table):
+                    exact = (Decimal(square.numerator) / square.denominator).sqrt()
+                    self.assertLess(abs(m - exact), Decimal(0.5) - Decimal(2)**-45)
+
+    def test_no_tie(self):
+        # Half of an odd number has four times its square odd. No such square is here.
+        for table in self.TABLES:
+            for _, square in self.entries(*table):
+                self.assertFalse((4 * square).denominator == 1 and (4 * square) % 2 == 1)
+
+    def test_changed_entries(self):
+        # Document 01: the largest whole w with w * w not above the square.
+        changed = []
+        for table in self.TABLES:
+            changed.append(0)
+            for m, square in self.entries(*table):
+                old = m if m * m <= square else m - 1
+                self.assertTrue(old**2 <= square < (old + 1)**2)
+                changed[-1] += m != old
+        self.assertEqual(changed, [67, 68, 60, 70])
+
+    def test_reciprocal(self):
+        for r in range(128, 257):
+            self.assertEqual(plate.multiplier(RECIPROCAL, r, 0), r * 2**20)
+
+    def test_vectors(self):
+        # Every entry has a raw vector that tells it from one less and one that tells it
+        # from one more, so each of the changed entries is told from document 01's. The
+        # one exception no call can tell: M 2**29 from 2**29 + 1, as b is below 2**28.
+        told = {(ROOT, 1, 255, 1)}
+        for operation, y, p in make_vectors.raw_calls():
+            refusal, g = plate.raw(operation, y, p)
+            if refusal == 0 and operation != RECIPROCAL:
+                r, s, a = plate.reduction(y)
+                b = plate.series(operation, s, a)
+                m = plate.multiplier(operation, r, p)
+                told.update((operation, p, y // 65536, more) for more in (-1, 1)
+                            if (m + more) * b // 2**28 != g)
+        self.assertEqual(len(told), 2 * 512)
+        self.assertEqual(plate.multiplier(ROOT, 128, 1), 2**29)
 
 
 class Platelist(unittest.TestCase):
@@ -613,18 +678,18 @@ class Samples(unittest.TestCase):
             self.assertEqual(plate.binary32(ROOT, NEAREST, bits, 0)[1], answer)
 
     def test_raw_distance(self):
-        # Document 01: under 12, 8 and 8 units from 2**28 times the exact value.
+        # Document 01 and #105: under 12, 7 and 7 units from 2**28 times the exact value.
         edges = [i << 16 for i in range(128, 256)] + [(i << 16) - 1 for i in range(129, 257)]
         for y in edges + [self.random.randrange(2**23, 2**24) for _ in range(3000)]:
             g = plate.raw(RECIPROCAL, y, 0)[1]
             self.assertLess(abs(g * y - 2**51), 12 * y)
             for p in (0, 1):
                 g = plate.raw(ROOT, y, p)[1]        # exact: sqrt(y * 2**(33 + p))
-                self.assertLess((g - 8)**2, y * 2**(33 + p))
-                self.assertGreater((g + 8)**2, y * 2**(33 + p))
+                self.assertLess((g - 7)**2, y * 2**(33 + p))
+                self.assertGreater((g + 7)**2, y * 2**(33 + p))
                 g = plate.raw(INVERSE_ROOT, y, p)[1]  # exact: sqrt(2**(79 - p) / y)
-                self.assertLess((g - 8)**2 * y, 2**(79 - p))
-                self.assertGreater((g + 8)**2 * y, 2**(79 - p))
+                self.assertLess((g - 7)**2 * y, 2**(79 - p))
+                self.assertGreater((g + 7)**2 * y, 2**(79 - p))
 
     def bracket(self, operation, bits):
         lower = plate.binary32(operation, DOWN, bits, 0)[1]

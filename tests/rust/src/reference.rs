@@ -1,6 +1,6 @@
 //! Document 01 in plain Rust with whole numbers, the three layers in its order, with
-//! document 02's rounding in the list (#102), its lifted list (#104) and its reader
-//! (#101). Each call gives its refusal first, 0 if it was accepted.
+//! document 02's nearest M (#105), its rounding in the list (#102), its lifted list
+//! (#104) and its reader (#101). Each call gives its refusal first, 0 if it was accepted.
 
 use std::cmp::Ordering;
 use std::sync::LazyLock;
@@ -37,8 +37,8 @@ static MULTIPLIERS: LazyLock<Vec<i64>> = LazyLock::new(|| {
                 let r = 32_768 / i as u128;
                 let m = match operation {
                     RECIPROCAL => r << 20,
-                    ROOT => ((1 << (64 + p)) / r).isqrt(),
-                    _ => ((r << 56) >> (8 + p)).isqrt(),
+                    ROOT => nearest_root(1 << (64 + p), r),
+                    _ => nearest_root(r << 56, 1 << (8 + p)),
                 };
                 table[place(operation, p, i)] = m as i64;
             }
@@ -46,6 +46,16 @@ static MULTIPLIERS: LazyLock<Vec<i64>> = LazyLock::new(|| {
     }
     table
 });
+
+/// The whole number nearest to the root of n / d, which is never half-way between two.
+fn nearest_root(n: u128, d: u128) -> u128 {
+    let low = (n / d).isqrt();
+    match ((2 * low + 1).pow(2) * d).cmp(&(4 * n)) {
+        Ordering::Less => low + 1,
+        Ordering::Equal => panic!("the root of {n} / {d} is half-way"),
+        Ordering::Greater => low,
+    }
+}
 
 fn place(operation: u8, p: u8, i: usize) -> usize {
     (operation as usize * 2 + p as usize) * 256 + i

@@ -1,4 +1,4 @@
-//! plate_raw against the steps of document 01 in plain Rust:
+//! plate_raw against the steps of document 01, with the M of #105, in plain Rust:
 //! cargo test --release --test raw
 
 use plate_tests::calls::raw as call;
@@ -27,7 +27,7 @@ fn every_accepted_call() {
     });
 }
 
-/// Under 12, 8 and 8 units of 2^-28 from the exact value, all accepted calls.
+/// Under 12, 7 and 7 units of 2^-28 from the exact value, all accepted calls.
 #[test]
 fn distance() {
     work::over("distance", 1 << 23, |part| {
@@ -39,11 +39,11 @@ fn distance() {
                     1 => (g * y).abs_diff(1 << 51) < 12 * y,
                     2 => {
                         let square = y << (33 + parity);
-                        (g - 8).pow(2) < square && square < (g + 8).pow(2)
+                        (g - 7).pow(2) < square && square < (g + 7).pow(2)
                     }
                     _ => {
                         let square = 1 << (79 - parity);
-                        (g - 8).pow(2) * y < square && square < (g + 8).pow(2) * y
+                        (g - 7).pow(2) * y < square && square < (g + 7).pow(2) * y
                     }
                 };
                 assert!(near, "raw {operation} {y} {parity} gives {g}");
