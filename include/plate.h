@@ -1,5 +1,5 @@
-/* The plate unit, called from C. Document 01 and requests #101, #102 and
-   #104 of document 02 say what each call answers.
+/* The plate unit, called from C. Document 01 and requests #101, #102,
+   #104 and #105 of document 02 say what each call answers.
 
    Every call takes every value of its numbers and checks them itself. All but
    plate_record give one 64-bit number:
@@ -50,7 +50,9 @@ extern "C" {
 #define PLATE_STATUS(given) ((uint8_t)((given) >> 32))
 #define PLATE_REFUSAL(given) ((uint8_t)((given) >> 40))
 
-/* The raw significand unit. Refusals: 1, 3, 4. */
+/* The raw significand unit: an answer g stands for g / 2^28, and is less than 12
+   (reciprocal) or 7 (both roots) of these units from the exact value.
+   Refusals: 1, 3, 4. */
 uint64_t plate_raw(uint8_t operation, uint32_t significand, uint8_t parity);
 
 /* The binary32 unit. status holds the flags so far. Refusals: 1, 2; after one

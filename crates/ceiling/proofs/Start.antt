@@ -15,7 +15,7 @@ use Rattle.numbers.proofs.Squares.{square-below}
 use Rattle.kinds.specs.declared.Op.the-variants.{Root}
 use Rattle.significand.specs.Width.{k32, t32}
 use Rattle.significand.specs.Steps.{rawOf}
-use Rattle.significand.specs.Distance.{Near}
+use Rattle.significand.specs.Distance.{Near, boundOf}
 use Rattle.significand.proofs.Accepted.{raw-near}
 use Rattle.leading.specs.Leading.{LeadingOf}
 use Rattle.leading.proofs.Exponents.{exponent-below, parity-most, parity-power, halves-low, halves-high}
@@ -66,6 +66,10 @@ module _ (n y P H S : ℕ) (some : 0 < H) (whole : S * H ≡ 2 ^ 28) where
       ∷ [])
       (vn ⊗ (vs ⊗ vs)) (vx ⊗ vx ⊕ # 17179869184) tt (omega (arith, mul-pos some some)) (omega (arith, squared))
 
+-- the raw root's distance
+abbrev D : ℕ
+D = boundOf Root
+
 -- the raw root is at least 2^28, less its distance
 answer-least : (y P x : ℕ) → 2 ^ 23 ≤ y → 1 ≤ P → y * P * 2 ^ 33 ≤ x * x → 2 ^ 28 ≤ x
 answer-least y P x y-least P-least over =
@@ -77,16 +81,16 @@ answer-least y P x y-least P-least over =
 
 -- c is g over 2T, rounded: half of the next number after t, which is g over T, floored
 module _ (n g T t : ℕ) (fine : 64 ≤ T) (at : T * t ≤ g) (next : g < T * (t + 1)) where
-  below : (d : ℕ) → 2 * d + 1 ≤ t → (g - 8) * (g - 8) + 1 ≤ n * (2 * T * (2 * T)) → d * d < n
+  below : (d : ℕ) → 2 * d + 1 ≤ t → (g - D) * (g - D) + 1 ≤ n * (2 * T * (2 * T)) → d * d < n
   below d h under =
       let a : T * (2 * d + 1) ≤ T * t = mul-le-mul {n₁ = T} {m₁ = 2 * d + 1} {n₂ = T} {m₂ = t} (omega arith) h in
-      let b : d * (2 * T) ≤ g - 8 = omega arith in
+      let b : d * (2 * T) ≤ g - D = omega arith in
       lt-of-mul-lt-mul-left (2 * T * (2 * T)) (omega (arith, mul-le-mul b b))
 
-  above : (u : ℕ) → t + 2 ≤ 2 * u → 2 ^ 28 ≤ g + 8 → n * (2 * T * (2 * T)) ≤ (g + 8) * (g + 8) + 2 ^ 34 → n ≤ u * u
+  above : (u : ℕ) → t + 2 ≤ 2 * u → 2 ^ 28 ≤ g + D → n * (2 * T * (2 * T)) ≤ (g + D) * (g + D) + 2 ^ 34 → n ≤ u * u
   above u h large over =
       let a : T * (t + 2) ≤ T * (2 * u) = mul-le-mul {n₁ = T} {m₁ = t + 2} {n₂ = T} {m₂ = 2 * u} (omega arith) h in
-      let b : g + 8 + 32 ≤ u * (2 * T) = omega arith in
+      let b : g + D + 32 ≤ u * (2 * T) = omega arith in
       le-of-mul-le-mul-left {k = 2 * T * (2 * T)} (omega (arith, mul-le-mul b b)) (mul-pos {m = 2 * T} {n = 2 * T} (omega arith) (omega arith))
 
 -- c and the two bounds
@@ -121,18 +125,18 @@ module _ (n y j : ℕ) (leading : LeadingOf n y j) (small : n < 2 ^ 44) where
   unit-whole = omega (arith, power-sum (27 - j / 2) (j / 2) 27 (omega (arith, half-most)))
 
   module _ (g : ℕ) (raw : g ≡ rawOf k32 t32 Root y (j % 2)) where
-    near : Near Root k32 t32 y (j % 2) 8 g
+    near : Near Root k32 t32 y (j % 2) D g
     near = raw-near Root y (j % 2) g (leading .significand) (parity-most j) raw
 
     -- the raw root's distance, without its scale
-    raw-below : (g - 8) * (g - 8) + 1 ≤ y * 2 ^ (j % 2) * 2 ^ 33
+    raw-below : (g - D) * (g - D) + 1 ≤ y * 2 ^ (j % 2) * 2 ^ 33
     raw-below =
-        let u : (g - 8) * (g - 8) * 2 ^ 23 < y * (2 ^ 56 * 2 ^ (j % 2)) = rw (pow-add 2 56 (j % 2)) at (near .under) in
+        let u : (g - D) * (g - D) * 2 ^ 23 < y * (2 ^ 56 * 2 ^ (j % 2)) = rw (pow-add 2 56 (j % 2)) at (near .under) in
         omega arith
 
-    raw-above : y * 2 ^ (j % 2) * 2 ^ 33 ≤ (g + 8) * (g + 8)
+    raw-above : y * 2 ^ (j % 2) * 2 ^ 33 ≤ (g + D) * (g + D)
     raw-above =
-        let o : y * (2 ^ 56 * 2 ^ (j % 2)) < (g + 8) * (g + 8) * 2 ^ 23 = rw (pow-add 2 56 (j % 2)) at (near .over) in
+        let o : y * (2 ^ 56 * 2 ^ (j % 2)) < (g + D) * (g + D) * 2 ^ 23 = rw (pow-add 2 56 (j % 2)) at (near .over) in
         omega arith
 
     pub starts : Starts n (startOf j g)
@@ -144,7 +148,7 @@ module _ (n y j : ℕ) (leading : LeadingOf n y j) (small : n < 2 ^ 44) where
         let c : ℕ = (t + 1) / 2 in
         let at : T * t ≤ g = mul-div-le g T in
         let next : g < T * (t + 1) = lt-mul-div-succ g (omega (arith, unit-least)) in
-        let large : 2 ^ 28 ≤ g + 8 = answer-least y P (g + 8) (leading .significand .least) (parity-power j .0) raw-above in
+        let large : 2 ^ 28 ≤ g + D = answer-least y P (g + D) (leading .significand .least) (parity-power j .0) raw-above in
         let one : 1 ≤ t =
         by-cases (decLt 0 t) (λ l. l)
         (λ l.
@@ -153,10 +157,10 @@ module _ (n y j : ℕ) (leading : LeadingOf n y j) (small : n < 2 ^ 44) where
         omega (arith, unit-most)) in
         let b : (c - 1) * (c - 1) < n =
         below n g T t unit-least at next (c - 1) (omega arith)
-        (root-below n y P H (2 * T) (pow-pos (j / 2)) unit-whole (g - 8) raw-below (halves-low n y j leading)) in
+        (root-below n y P H (2 * T) (pow-pos (j / 2)) unit-whole (g - D) raw-below (halves-low n y j leading)) in
         let a : n ≤ (c + 1) * (c + 1) =
         above n g T t unit-least at next (c + 1) (omega arith) large
-        (root-above n y P H (2 * T) (pow-pos (j / 2)) unit-whole (g + 8) (parity-power j .1) raw-above (halves-high n y j leading)) in
+        (root-above n y P H (2 * T) (pow-pos (j / 2)) unit-whole (g + D) (parity-power j .1) raw-above (halves-high n y j leading)) in
         record {
           least = omega arith;
           most = omega (arith, square-below (c - 1) (2 ^ 22) (omega arith));

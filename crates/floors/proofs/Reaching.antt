@@ -141,8 +141,8 @@ start-small op y p g Y parity near =
     quotient-small op y p (startOf op g) Y parity (le-of-lt (started-low op y p g parity near))
 
 -- the reciprocal's three steps
-pub reciprocal-reached : (y g : ℕ) (a b r : Partial) → Near Reciprocal k32 t32 y 0 12 g
-    → Stepped (record { quotient = (g - 12) / 8; left = 2 ^ 48 - y * ((g - 12) / 8) }) y a → Stepped a y b → Stepped b y r
+pub reciprocal-reached : (y g : ℕ) (a b r : Partial) → Near Reciprocal k32 t32 y 0 (boundOf Reciprocal) g
+    → Stepped (record { quotient = startOf Reciprocal g; left = 2 ^ 48 - y * startOf Reciprocal g }) y a → Stepped a y b → Stepped b y r
     → Reached Reciprocal y (targetOf Reciprocal y 0) r 0
 reciprocal-reached y g a b r near sa sb sr =
     let first = nearer Reciprocal y (2 ^ 48) 2 _ a (started Reciprocal y 0 g (omega arith) near) sa in
@@ -158,8 +158,8 @@ pub root-shifted : (y p : ℕ) → y < 2 ^ 24 → p ≤ 1 → y * 2 ^ (25 + p) %
 root-shifted y p h k = mod-eq-of-lt (omega (arith, root-target y p h k))
 
 -- the root's one step
-pub root-reached : (y p g : ℕ) (r : Partial) → y < 2 ^ 24 → p ≤ 1 → Near Root k32 t32 y p 8 g
-    → Stepped (record { quotient = (g - 8) / 16; left = y * 2 ^ (25 + p) % 2 ^ 64 - (g - 8) / 16 * ((g - 8) / 16) }) (2 * ((g - 8) / 16) + 1) r
+pub root-reached : (y p g : ℕ) (r : Partial) → y < 2 ^ 24 → p ≤ 1 → Near Root k32 t32 y p (boundOf Root) g
+    → Stepped (record { quotient = startOf Root g; left = y * 2 ^ (25 + p) % 2 ^ 64 - startOf Root g * startOf Root g }) (2 * startOf Root g + 1) r
     → Reached Root y (targetOf Root y p) r 0
 root-reached y p g r h k near s =
     nearer Root y (targetOf Root y p) 0 _ r (started Root y p g k near) (rw (root-shifted y p h k) at s)
@@ -190,7 +190,7 @@ inverse-target y (suc zero) h = (2 ^ 16, refl)
 inverse-target y (suc (suc p)) h = absurd (omega arith)
 
 -- the remainder at the start
-pub inverse-left : (y p g : ℕ) → Significand k32 t32 y → p ≤ 1 → Near InverseRoot k32 t32 y p 8 g
+pub inverse-left : (y p g : ℕ) → Significand k32 t32 y → p ≤ 1 → Near InverseRoot k32 t32 y p (boundOf InverseRoot) g
     → remainderOf (startOf InverseRoot g) y ≡ targetOf InverseRoot y p - side InverseRoot y (startOf InverseRoot g)
 unfolding remainderOf
 inverse-left y p g Y parity near =
@@ -202,9 +202,9 @@ inverse-left y p g Y parity near =
     remainder-tells (q * q * y) (m .0) (targetOf InverseRoot y p - q * q * y) (omega (arith, l, m .1)) (omega (arith, u, inverse-room q y small (Y .below)))
 
 -- the inverse root's two steps
-pub inverse-root-reached : (y p g l : ℕ) (a r : Partial) → Significand k32 t32 y → p ≤ 1 → Near InverseRoot k32 t32 y p 8 g
-    → l ≡ remainderOf ((g - 8) / 8) y
-    → Stepped (record { quotient = (g - 8) / 8; left = l }) ((2 * ((g - 8) / 8) + 1) * y) a → Stepped a ((2 * a .quotient + 1) * y) r
+pub inverse-root-reached : (y p g l : ℕ) (a r : Partial) → Significand k32 t32 y → p ≤ 1 → Near InverseRoot k32 t32 y p (boundOf InverseRoot) g
+    → l ≡ remainderOf (startOf InverseRoot g) y
+    → Stepped (record { quotient = startOf InverseRoot g; left = l }) ((2 * startOf InverseRoot g + 1) * y) a → Stepped a ((2 * a .quotient + 1) * y) r
     → Reached InverseRoot y (targetOf InverseRoot y p) r 0
 inverse-root-reached y p g l a r Y parity near e sa sr =
     let x = targetOf InverseRoot y p in

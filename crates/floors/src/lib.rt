@@ -46,7 +46,7 @@ pub fn root(y: u64, p: u64, g: u64) -> Partial
     requires { ⌜ Significand k32 t32 y × (p ≤ 1) × (g < 2 ^ 32) × Near Root k32 t32 y p (boundOf Root) g ⌝ }
     ensures { λ r. ⌜ Reached Root y (targetOf Root y p) r 0 ⌝ }
 {
-    let q = (g - 8) / 16;
+    let q = (g - 7) / 16;
     let first = Partial {
         quotient: q,
         left: (y << (25 + p)) - q * q,
@@ -59,7 +59,7 @@ pub fn inverse_root(y: u64, p: u64, g: u64) -> Partial
     requires { ⌜ Significand k32 t32 y × (p ≤ 1) × (g < 2 ^ 32) × Near InverseRoot k32 t32 y p (boundOf InverseRoot) g ⌝ }
     ensures { λ r. ⌜ Reached InverseRoot y (targetOf InverseRoot y p) r 0 ⌝ }
 {
-    let q = (g - 8) / 8;
+    let q = (g - 7) / 8;
     let first = Partial {
         quotient: q,
         left: remainder(q, y),

@@ -3,9 +3,9 @@ pub mod Exponents
 pub mod Bits
 pub mod Greatest
 pub mod Least
+pub mod Nearest
 pub mod Powers
 pub mod Products
 pub mod Ring
 pub mod Signed
-pub mod SquareRoot
 pub mod Squares

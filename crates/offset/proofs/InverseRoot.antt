@@ -3,7 +3,7 @@ use Prim.Native.Nat.{ℕ, _+_, _-_, _*_, _/_, _%_, _^_, _≤_, _<_}
 use mathlib.Core.Path.{_≡_, subst}
 use mathlib.Core.List.{List, [], _∷_}
 use mathlib.Core.Logic.{by-cases}
-use native.Mathlib.Nat.{mul-le-mul}
+use native.Mathlib.Nat.{mul-le-mul, mul-le-mul-right, lt-of-lt-of-le}
 use native.Mathlib.Decide.{decLt}
 use native.Mathlib.Omega.{arith}
 use lib.Pow.{pow-add}
@@ -11,7 +11,7 @@ use Rattle.numbers.proofs.Ring.{E, v, #, _⊕_, _⊗_, _⊙_⊑_, nlin×}
 use Rattle.kinds.specs.declared.Op.the-variants.{InverseRoot}
 use Rattle.significand.specs.Width.{k32, t32}
 use Rattle.significand.specs.Steps.{rawOf}
-use Rattle.significand.specs.Distance.{Near}
+use Rattle.significand.specs.Distance.{Near, boundOf}
 use Rattle.significand.proofs.Accepted.{raw-near}
 use Rattle.leading.specs.Leading.{LeadingOf}
 use Rattle.leading.proofs.Exponents.{parity-most, parity-power, halves-low, halves-high}
@@ -51,7 +51,7 @@ vh = v 3
 abbrev vl : E
 vl = v 4
 
--- with q · 2^23 from y to y + 1 times P and the square of h, g lowered by 24 is below, and 32 more is above
+-- with q · 2^23 from y to y + 1 times P and the square of h: low is below, being 16 less than what is, and 32 more is above
 module _ (q y P h low : ℕ) where
   abbrev ρ : List ℕ
   ρ = q ∷ y ∷ P ∷ h ∷ low ∷ []
@@ -75,11 +75,15 @@ module _ (q y P h low : ℕ) where
       ∷ [])
       (# 72057594037927936 ⊗ (vh ⊗ vh)) ((vl ⊕ # 32) ⊗ (vl ⊕ # 32) ⊗ vq) tt (omega arith) (omega arith)
 
+-- g lowered by its distance and by 16
+abbrev lowered : ℕ → ℕ
+lowered g = g - (boundOf InverseRoot + 16)
+
 module _ (q y j : ℕ) (leading : LeadingOf q y j) (g : ℕ) (raw : g ≡ rawOf k32 t32 InverseRoot y (j % 2)) where
-  near : Near InverseRoot k32 t32 y (j % 2) 8 g
+  near : Near InverseRoot k32 t32 y (j % 2) (boundOf InverseRoot) g
   near = raw-near InverseRoot y (j % 2) g (leading .significand) (parity-most j) raw
 
-  inverse-near : (24 ≤ g) × InverseOf q (g - 24) (27 + j / 2)
+  inverse-near : (boundOf InverseRoot + 16 ≤ g) × InverseOf q (lowered g) (27 + j / 2)
   inverse-near =
       let P : ℕ = 2 ^ (j % 2) in
       let h : ℕ = 2 ^ (j / 2) in
@@ -87,12 +91,14 @@ module _ (q y j : ℕ) (leading : LeadingOf q y j) (g : ℕ) (raw : g ≡ rawOf 
       let y1 = leading .significand .below in
       let P0 = parity-power j .0 in
       let P1 = parity-power j .1 in
-      let least = answer-least y P y0 y1 P0 P1 (g + 8) (near .over) in
-      let most = answer-most y P y0 y1 P0 P1 (g - 8) (near .under) in
-      let e8 : g - 8 ≡ g - 24 + 16 = omega arith in
-      let e32 : g + 8 ≡ g - 24 + 32 = omega arith in
-      let below : (g - 24 + 16) * (g - 24 + 16) * y * P < 2 ^ 79 = subst (λ (x : ℕ). x * x * y * P < 2 ^ 79) e8 (near .under) in
-      let above : 2 ^ 79 < (g - 24 + 32) * (g - 24 + 32) * y * P = subst (λ (x : ℕ). 2 ^ 79 < x * x * y * P) e32 (near .over) in
+      let low : ℕ = lowered g in
+      let least = answer-least y P y0 y1 P0 P1 (g + boundOf InverseRoot) (near .over) in
+      let most = answer-most y P y0 y1 P0 P1 (g - boundOf InverseRoot) (near .under) in
+      let taken : g - boundOf InverseRoot ≡ low + 16 = omega arith in
+      let added : g + boundOf InverseRoot ≤ low + 32 = omega arith in
+      let below : (low + 16) * (low + 16) * y * P < 2 ^ 79 = subst (λ (x : ℕ). x * x * y * P < 2 ^ 79) taken (near .under) in
+      let above : 2 ^ 79 < (low + 32) * (low + 32) * y * P =
+      lt-of-lt-of-le (near .over) (mul-le-mul-right P (mul-le-mul-right y (mul-le-mul added added))) in
       let power-is : 2 ^ (27 + j / 2) ≡ 2 ^ 27 * h = pow-add 2 27 (j / 2) in
       let squared : 4 * (2 ^ (27 + j / 2) * 2 ^ (27 + j / 2)) ≡ 2 ^ 56 * (h * h) = rw power-is (omega arith) in (
         omega arith,
@@ -100,13 +106,13 @@ module _ (q y j : ℕ) (leading : LeadingOf q y j) (g : ℕ) (raw : g ≡ rawOf 
           least = omega arith;
           most = omega arith;
           shifts = omega (arith, leading .most);
-          below = rw squared (inverse-below q y P h (g - 24) (omega arith) y0 below (halves-high q y j leading));
-          above = rw squared (inverse-above q y P h (g - 24) above (halves-low q y j leading));
+          below = rw squared (inverse-below q y P h low (omega arith) y0 below (halves-high q y j leading));
+          above = rw squared (inverse-above q y P h low above (halves-low q y j leading));
         },
       )
 
-  pub answer-above : 24 ≤ g
+  pub answer-above : boundOf InverseRoot + 16 ≤ g
   answer-above = inverse-near .0
 
-  pub inverse-is : InverseOf q (g - 24) (27 + j / 2)
+  pub inverse-is : InverseOf q (lowered g) (27 + j / 2)
   inverse-is = inverse-near .1

@@ -17,14 +17,14 @@ pub struct Inverse {
 }
 
 // Prepares a squared length by its leading bits: the exponent's parity goes with the significand, and its half is a shift. The raw
-// answer g is lowered by 24: by 8, its distance, and by 16, which the unit of the significand makes at most.
+// answer g is lowered by 23: by 7, its distance, and by 16, which the unit of the significand makes at most.
 pub fn inverse_of(q: u64) -> Inverse
     requires { ⌜ (0 < q) × (q < 2 ^ 35) ⌝ }
     ensures { λ r. ⌜ InverseOf q (r .low) (r .shift) ⌝ }
 {
     let leading = leading::leading_of(q);
     let g = raw::inverse_root(leading.significand, leading.exponent % 2);
-    let low = (g as u64) - 24;
+    let low = (g as u64) - 23;
     let shift = 27 + leading.exponent / 2;
     Inverse { low, shift }
 }

@@ -73,6 +73,6 @@ module _ (operation y p : ℕ) where
     unfolding rawAnswer
     accepted-answer = rw e
 
-    -- which is less than 12, 8 and 8 units of 1 / 268,435,456 from the exact value
+    -- which is less than 12, 7 and 7 units of 1 / 268,435,456 from the exact value
     pub accepted-near : Near (opOf operation) k32 t32 y p (boundOf (opOf operation)) (rawAnswer operation y p)
     accepted-near = raw-near (opOf operation) y p (rawAnswer operation y p) (accepted .significand) (accepted .parity) accepted-answer

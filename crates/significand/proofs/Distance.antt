@@ -1,4 +1,4 @@
--- THE DISTANCES. For every significand y, parity p and operation, the raw answer g is less than 12 (reciprocal) or 8 (both roots) away from 2^(4k)
+-- THE DISTANCES. For every significand y, parity p and operation, the raw answer g is less than 12 (reciprocal) or 7 (both roots) away from 2^(4k)
 -- times the exact value, for every digit size k from 7 up and any number t of bits below the three digits. Assumes nothing.
 use mathlib.Core.Path.{subst, sym}
 use mathlib.Core.Bool.{Bool}
@@ -9,10 +9,10 @@ use Rattle.kinds.specs.declared.Op.{Op}
 use Rattle.kinds.specs.declared.Op.the-variants.{Reciprocal, Root, InverseRoot}
 use Rattle.significand.specs.Width.{Significand}
 use Rattle.significand.specs.Steps.{indexOf, factorOf, signOf, reducedOf, seriesOf, multiplierOf, rawOf}
-use Rattle.significand.specs.Distance.{Over, Near, boundOf}
+use Rattle.significand.specs.Distance.{Near, boundOf}
 use Rattle.significand.proofs.Close.{Close, series-close}
-use Rattle.significand.proofs.Scale.{whole-is, whole-least, over-least, under-less, over-more}
-use Rattle.significand.proofs.General.{reachOf, general}
+use Rattle.significand.proofs.Scale.{whole-is}
+use Rattle.significand.proofs.General.{general}
 use Rattle.significand.proofs.Reduction.{least, most, reduced-small, reduced}
 use Rattle.significand.proofs.Sums.{pointOf, summed}
 use Rattle.significand.proofs.Multiplier.{multiplies}
@@ -38,34 +38,12 @@ module _ (op : Op) (k t y p : ℕ) (h : 7 ≤ k) (e : p ≤ 1) (Y : Significand 
       (series-close op s (pointOf k op s a) (2 ^ t) (y * r) (reduced k t y h Y .from) (reduced k t y h Y .upto)
       (summed k a h (reduced-small k t y h Y) op s))
 
-  -- so g is as near as the general law says
-  within : Near op k t y p (reachOf op) (rawOf k t op y p)
-  unfolding rawOf
-  within =
-      general k t y r p (multiplierOf k op r p) b h e Y (least k t y h Y) (most k t y h Y) op
-      (multiplies k r p e (least k t y h Y) (most k t y h Y) op) close
-
--- the distances promised are no less than those of the general law, and at most 12
-promised : (op : Op) → (reachOf op ≤ boundOf op) × (boundOf op ≤ 12)
-promised Reciprocal = omega arith
-promised Root = omega arith
-promised InverseRoot = omega arith
-
-module _ (op : Op) (k t y p : ℕ) (h : 7 ≤ k) (e : p ≤ 1) (Y : Significand k t y) where
-  abbrev g : ℕ
-  g = rawOf k t op y p
-
-  -- THE THEOREM: g is less than 12, 8 and 8 away
+  -- THE THEOREM: g is less than 12, 7 and 7 away
   pub distance : Near op k t y p (boundOf op) (rawOf k t op y p)
+  unfolding rawOf
   distance =
-      let near : Near op k t y p (reachOf op) g = within op k t y p h e Y in
-      let over : Over op k (3 * k + t - 1) y p (g + boundOf op) =
-      over-more op k (3 * k + t - 1) y p (g + reachOf op) (g + boundOf op) (omega (arith, promised op)) (near .over) in
-      record {
-        enough = omega (arith, over-least k t y p (g + boundOf op) h e Y op over, whole-least k h, promised op);
-        under = under-less op k (3 * k + t - 1) y p (g - reachOf op) (g - boundOf op) (omega (arith, promised op)) (near .under);
-        over = over;
-      }
+      general k t y r p (multiplierOf k op r p) b h e Y (least k t y h Y) (most k t y h Y) op
+      (multiplies k r p (omega arith) e (least k t y h Y) (most k t y h Y) op) close
 
 -- The three by themselves, written out. Here m = 3k + t − 1.
 module _ (k t y : ℕ) (h : 7 ≤ k) (Y : Significand k t y) where
@@ -78,13 +56,13 @@ module _ (k t y : ℕ) (h : 7 ≤ k) (Y : Significand k t y) where
 
   module _ (p : ℕ) (e : p ≤ 1) where
     pub root-distance : let g : ℕ = rawOf k t Root y p in
-        (8 ≤ g) × ((g - 8) * (g - 8) * 2 ^ (3 * k + t - 1) < y * 2 ^ (8 * k + p)) × (y * 2 ^ (8 * k + p) < (g + 8) * (g + 8) * 2 ^ (3 * k + t - 1))
+        (7 ≤ g) × ((g - 7) * (g - 7) * 2 ^ (3 * k + t - 1) < y * 2 ^ (8 * k + p)) × (y * 2 ^ (8 * k + p) < (g + 7) * (g + 7) * 2 ^ (3 * k + t - 1))
     root-distance =
-        let d : Near Root k t y p 8 (rawOf k t Root y p) = distance Root k t y p h e Y in
+        let d : Near Root k t y p 7 (rawOf k t Root y p) = distance Root k t y p h e Y in
         (d .enough, d .under, d .over)
 
     pub inverse-root-distance : let g : ℕ = rawOf k t InverseRoot y p in
-        (8 ≤ g) × ((g - 8) * (g - 8) * y * 2 ^ p < 2 ^ (8 * k + (3 * k + t - 1))) × (2 ^ (8 * k + (3 * k + t - 1)) < (g + 8) * (g + 8) * y * 2 ^ p)
+        (7 ≤ g) × ((g - 7) * (g - 7) * y * 2 ^ p < 2 ^ (8 * k + (3 * k + t - 1))) × (2 ^ (8 * k + (3 * k + t - 1)) < (g + 7) * (g + 7) * y * 2 ^ p)
     inverse-root-distance =
-        let d : Near InverseRoot k t y p 8 (rawOf k t InverseRoot y p) = distance InverseRoot k t y p h e Y in
+        let d : Near InverseRoot k t y p 7 (rawOf k t InverseRoot y p) = distance InverseRoot k t y p h e Y in
         (d .enough, d .under, d .over)

@@ -1,5 +1,5 @@
 -- The general law of the answer's distance: for any M within one unit of the exact M, and any b close to the exact series, M b / 2^(4k), floored,
--- is within 12 (reciprocal) or 7 (both roots) of 2^(4k) times the exact value. Assumes nothing.
+-- is less than 12 (reciprocal) or 7 (both roots) away from 2^(4k) times the exact value. Assumes nothing.
 use mathlib.Core.Path.{_≡_, ap}
 use mathlib.Core.List.{[], _∷_}
 use Prim.Native.Nat.{ℕ, _+_, _*_, _-_, _/_, _^_, _≤_, _<_}
@@ -8,32 +8,19 @@ use native.Mathlib.Omega.{arith}
 use lib.Pow.{pow-pos}
 use Rattle.kinds.specs.declared.Op.{Op}
 use Rattle.kinds.specs.declared.Op.the-variants.{Reciprocal, Root, InverseRoot}
+use Rattle.numbers.specs.Nearest.{WithinOne}
 use Rattle.numbers.proofs.Exponents.{power-of}
 use Rattle.significand.specs.Width.{Significand}
-use Rattle.significand.specs.Distance.{Under, Over, Near}
+use Rattle.significand.specs.Distance.{Under, Over, Near, boundOf}
 use Rattle.significand.proofs.Close.{Close}
 use Rattle.significand.proofs.Units.{Setting, Floored, root-multiplier, inverse-multiplier, recip-multiplier, root-under, root-over, inverse-under, inverse-over, recip-under, recip-over}
 use Rattle.significand.proofs.Scale.{setting, whole-is, whole-least, parity-most, quotient-scale, square-scale, root-power, inverse-power, whole-square, over-least}
 
 -- M is the exact M (reciprocal), or less than one unit away from it: √(2^(9k + 1 + p) / r), √(r 2^(8k) / 2^(k + 1 + p))
-pub record RootUnit (k r p M : ℕ) : Type 0 where
-  pub low : (M - 1) * (M - 1) * r < 2 ^ (9 * k + 1 + p)
-  pub high : 2 ^ (9 * k + 1 + p) < (M + 1) * (M + 1) * r
-
-pub record InverseUnit (k r p M : ℕ) : Type 0 where
-  pub low : (M - 1) * (M - 1) * 2 ^ (k + 1 + p) < r * 2 ^ (8 * k)
-  pub high : r * 2 ^ (8 * k) < (M + 1) * (M + 1) * 2 ^ (k + 1 + p)
-
 abbrev pub Multiplies : Op → ℕ → ℕ → ℕ → ℕ → Type 0
 Multiplies Reciprocal k r p M = M ≡ r * 2 ^ (3 * k - 1)
-Multiplies Root k r p M = RootUnit k r p M
-Multiplies InverseRoot k r p M = InverseUnit k r p M
-
--- the distance that follows
-abbrev pub reachOf : Op → ℕ
-reachOf Reciprocal = 12
-reachOf Root = 7
-reachOf InverseRoot = 7
+Multiplies Root k r p M = WithinOne r (2 ^ (9 * k + 1 + p)) M
+Multiplies InverseRoot k r p M = WithinOne (2 ^ (k + 1 + p)) (r * 2 ^ (8 * k)) M
 
 module _ (k r p M : ℕ) (h : 7 ≤ k) where
   abbrev Z : ℕ
@@ -43,16 +30,16 @@ module _ (k r p M : ℕ) (h : 7 ≤ k) where
   N = 2 ^ (4 * k)
 
   -- the rules for M over Z, N and 2^p
-  root-low : RootUnit k r p M → r * ((M - 1) * (M - 1)) < 2 * Z * N * N * 2 ^ p
+  root-low : Multiplies Root k r p M → r * ((M - 1) * (M - 1)) < 2 * Z * N * N * 2 ^ p
   root-low near = omega (arith, near .low, root-power k p)
 
-  root-high : RootUnit k r p M → 2 * Z * N * N * 2 ^ p < r * ((M + 1) * (M + 1))
+  root-high : Multiplies Root k r p M → 2 * Z * N * N * 2 ^ p < r * ((M + 1) * (M + 1))
   root-high near = omega (arith, near .high, root-power k p)
 
-  inverse-low : InverseUnit k r p M → 2 * Z * 2 ^ p * ((M - 1) * (M - 1)) < r * (N * N)
+  inverse-low : Multiplies InverseRoot k r p M → 2 * Z * 2 ^ p * ((M - 1) * (M - 1)) < r * (N * N)
   inverse-low near = omega (arith, near .low, ap (λ (n : ℕ). (M - 1) * (M - 1) * n) (inverse-power k p), ap (λ (n : ℕ). r * n) (whole-square k))
 
-  inverse-high : InverseUnit k r p M → r * (N * N) < 2 * Z * 2 ^ p * ((M + 1) * (M + 1))
+  inverse-high : Multiplies InverseRoot k r p M → r * (N * N) < 2 * Z * 2 ^ p * ((M + 1) * (M + 1))
   inverse-high near = omega (arith, near .high, ap (λ (n : ℕ). (M + 1) * (M + 1) * n) (inverse-power k p), ap (λ (n : ℕ). r * n) (whole-square k))
 
   recip-twice : M ≡ r * 2 ^ (3 * k - 1) → 2 * M ≡ r * (Z * Z * Z)
@@ -89,8 +76,8 @@ module _ (k t y r p M b : ℕ) (h : 7 ≤ k) (e : p ≤ 1) (Y : Significand k t 
   F : Floored (2 ^ (4 * k)) M b g
   F = record { low = div-mul-le-self (M * b) (2 ^ (4 * k)); high = lt-div-mul-add (pow-pos (4 * k)) }
 
-  -- g less its reach is under the exact value, and g more its reach is over it
-  under : (op : Op) → Multiplies op k r p M → Close op (2 ^ (4 * k)) (2 ^ t) (y * r) b → Under op k m y p (g - reachOf op)
+  -- g less its distance is under the exact value, and g more its distance is over it
+  under : (op : Op) → Multiplies op k r p M → Close op (2 ^ (4 * k)) (2 ^ t) (y * r) b → Under op k m y p (g - boundOf op)
   under Reciprocal is C =
       omega (arith, recip-under K F (recip-twice k r p M h is) C, quotient-scale k m, mul-sub y g 12, K .significand, pow-pos (4 * k + m))
   under Root near C =
@@ -98,23 +85,23 @@ module _ (k t y r p M b : ℕ) (h : 7 ≤ k) (e : p ≤ 1) (Y : Significand k t 
   under InverseRoot near C =
       rw square-scale (omega (arith, inverse-under K F (inverse-low k r p M h near) (inverse-high k r p M h near) C))
 
-  over : (op : Op) → Multiplies op k r p M → Close op (2 ^ (4 * k)) (2 ^ t) (y * r) b → Over op k m y p (g + reachOf op)
+  over : (op : Op) → Multiplies op k r p M → Close op (2 ^ (4 * k)) (2 ^ t) (y * r) b → Over op k m y p (g + boundOf op)
   over Reciprocal is C = rw quotient-scale (recip-over K F (recip-twice k r p M h is) C)
   over Root near C =
       rw square-scale (root-over K F (root-low k r p M h near) (root-high k r p M h near) C)
   over InverseRoot near C =
       rw square-scale (omega (arith, inverse-over K F (inverse-low k r p M h near) (inverse-high k r p M h near) C))
 
-  reach-small : (op : Op) → reachOf op ≤ 12
-  reach-small Reciprocal = omega arith
-  reach-small Root = omega arith
-  reach-small InverseRoot = omega arith
+  bound-small : (op : Op) → boundOf op ≤ 12
+  bound-small Reciprocal = omega arith
+  bound-small Root = omega arith
+  bound-small InverseRoot = omega arith
 
-  -- the law: g is within its reach, for any such M and b
-  pub general : (op : Op) → Multiplies op k r p M → Close op (2 ^ (4 * k)) (2 ^ t) (y * r) b → Near op k t y p (reachOf op) g
+  -- the law: g is less than its distance away, for any such M and b
+  pub general : (op : Op) → Multiplies op k r p M → Close op (2 ^ (4 * k)) (2 ^ t) (y * r) b → Near op k t y p (boundOf op) g
   general op near C =
       record {
-        enough = omega (arith, over-least k t y p (g + reachOf op) h e Y op (over op near C), whole-least k h, reach-small op);
+        enough = omega (arith, over-least k t y p (g + boundOf op) h e Y op (over op near C), whole-least k h, bound-small op);
         under = under op near C;
         over = over op near C;
       }

@@ -6,7 +6,7 @@ use native.Mathlib.Omega.{arith}
 use lib.Dec.{T, eqb, eqb→eq}
 use Rattle.kinds.specs.declared.Op.{Op}
 use Rattle.kinds.specs.declared.Op.the-variants.{Reciprocal, Root, InverseRoot}
-use Rattle.numbers.proofs.SquareRoot.{squareTight, square-tight}
+use Rattle.numbers.proofs.Nearest.{nearestTest, nearest-tested}
 use Rattle.significand.specs.Width.{k32, t32}
 use Rattle.significand.specs.Steps.{indexOf, factorOf, signOf, reducedOf, sumOf, seriesOf, multiplierOf, rawOf}
 use Rattle.significand.specs.Printed.{Sums, Printed}
@@ -40,18 +40,18 @@ unfolding multiplierOf
 reciprocal-multiplier r p = refl
 
 abbrev pub rootTest : ℕ → ℕ → ℕ → Bool
-rootTest p i w = squareTight 30 (32768 / i) (2 ^ (64 + p)) w
+rootTest p i w = nearestTest 30 (32768 / i) (2 ^ (64 + p)) w
 
 pub root-entry : (p i w : ℕ) → T (rootTest p i w) → w ≡ multiplierOf k32 Root (factorOf k32 i) p
 unfolding factorOf multiplierOf
-root-entry p i w t = sym (square-tight 30 (32768 / i) (2 ^ (64 + p)) w t)
+root-entry p i w t = sym (nearest-tested 30 (32768 / i) (2 ^ (64 + p)) w t)
 
 abbrev pub inverseRootTest : ℕ → ℕ → ℕ → Bool
-inverseRootTest p i w = squareTight 30 (2 ^ (8 + p)) (32768 / i * 2 ^ 56) w
+inverseRootTest p i w = nearestTest 30 (2 ^ (8 + p)) (32768 / i * 2 ^ 56) w
 
 pub inverse-root-entry : (p i w : ℕ) → T (inverseRootTest p i w) → w ≡ multiplierOf k32 InverseRoot (factorOf k32 i) p
 unfolding factorOf multiplierOf
-inverse-root-entry p i w t = sym (square-tight 30 (2 ^ (8 + p)) (32768 / i * 2 ^ 56) w t)
+inverse-root-entry p i w t = sym (nearest-tested 30 (2 ^ (8 + p)) (32768 / i * 2 ^ 56) w t)
 
 -- 5. M times b of the reduced significand is the answer
 pub answer-is : (op : Op) (y p r a m b g : ℕ) (s : Bool)

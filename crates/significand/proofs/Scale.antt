@@ -1,5 +1,4 @@
--- The unit's powers of two over k, t and p. What is over the exact value is above 2^(4k − 1), and what is further under or over it than a
--- number that is, is so too. Assumes nothing.
+-- The unit's powers of two over k, t and p. What is over the exact value is above 2^(4k − 1). Assumes nothing.
 use mathlib.Core.Path.{_≡_, ap}
 use mathlib.Core.List.{[], _∷_}
 use Prim.Native.Nat.{ℕ, _+_, _*_, _-_, _^_, _≤_, _<_}
@@ -11,7 +10,7 @@ use Rattle.kinds.specs.declared.Op.the-variants.{Reciprocal, Root, InverseRoot}
 use Rattle.numbers.proofs.Exponents.{power-of}
 use Rattle.numbers.proofs.Squares.{square-below}
 use Rattle.significand.specs.Width.{Significand}
-use Rattle.significand.specs.Distance.{Under, Over}
+use Rattle.significand.specs.Distance.{Over}
 use Rattle.significand.proofs.Series.{whole-big}
 use Rattle.significand.proofs.Units.{Setting}
 
@@ -94,14 +93,3 @@ module _ (k t y p x : ℕ) (h : 7 ≤ k) (e : p ≤ 1) (Y : Significand k t y) w
       let i : N * N * P < 2 * x * (2 * x) * P =
       omega (arith, square-scale k m, mul-le-mul-left (2 * x * x) top, mul-le-mul-left (x * x * y) (parity-most p e), o) in
       square-below N (2 * x) (lt-of-mul-lt-mul-right P i)
-
--- what is less than a number under the exact value is under it too, and what is more than one over it is over it
-pub under-less : (op : Op) (k m y p x z : ℕ) → z ≤ x → Under op k m y p x → Under op k m y p z
-under-less Reciprocal k m y p x z l u = omega (arith, mul-le-mul-right y l)
-under-less Root k m y p x z l u = omega (arith, mul-le-mul-right (2 ^ m) (mul-le-mul l l))
-under-less InverseRoot k m y p x z l u = omega (arith, mul-le-mul-right (2 ^ p) (mul-le-mul-right y (mul-le-mul l l)))
-
-pub over-more : (op : Op) (k m y p x z : ℕ) → x ≤ z → Over op k m y p x → Over op k m y p z
-over-more Reciprocal k m y p x z l o = omega (arith, mul-le-mul-right y l)
-over-more Root k m y p x z l o = omega (arith, mul-le-mul-right (2 ^ m) (mul-le-mul l l))
-over-more InverseRoot k m y p x z l o = omega (arith, mul-le-mul-right (2 ^ p) (mul-le-mul-right y (mul-le-mul l l)))

@@ -13,7 +13,7 @@ use Rattle.significand.proofs.Numerals.{index-is}
 -- M is at most 2^(4k + 1)
 multiplier-upto : (k r p : ℕ) → 7 ≤ k → p ≤ 1 → 2 ^ k ≤ r → r ≤ 2 ^ (k + 1) → (op : Op) → multiplierOf k op r p ≤ 2 ^ (4 * k + 1)
 multiplier-upto k r p h e least most op =
-    multiplier-most k r p (multiplierOf k op r p) h e least most op (multiplies k r p e least most op)
+    multiplier-most k r p (multiplierOf k op r p) h e least most op (multiplies k r p (omega arith) e least most op)
 
 module _ (y : ℕ) (Y : Significand k32 t32 y) where
   factor-least : 128 ≤ factorOf k32 (y / 65536)

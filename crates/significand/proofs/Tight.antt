@@ -1,4 +1,5 @@
--- A distance of 4 would be too small for each operation: a significand at k = 7 and t = 3 whose answer is further away. Assumes nothing.
+-- How near the distances are to what is reached at k = 7 and t = 3: 4 would be too small for the reciprocal and the root, and 3 for the
+-- inverse root, by a significand whose answer is further away. Assumes nothing.
 use mathlib.Core.Path.{_≡_, refl, sym, subst}
 use mathlib.Core.Bool.{true, false}
 use Prim.Native.Nat.{ℕ}
@@ -21,16 +22,16 @@ reciprocal-beyond-four near =
     answer-is Reciprocal 8519172 0 254 2048255 266338304 266402708 264321436 true refl refl refl refl (sym (reciprocal-multiplier 254 0)) refl in
     omega (arith, at-answer Reciprocal 8519172 0 4 264321436 e near .over)
 
-pub root-beyond-four : Near Root k32 t32 9070699 1 4 (rawOf k32 t32 Root 9070699 1) → ⊥
+pub root-beyond-four : Near Root k32 t32 16415029 1 4 (rawOf k32 t32 Root 16415029 1) → ⊥
 unfolding factorOf signOf reducedOf sumOf
 root-beyond-four near =
-    let e : 394757418 ≡ rawOf k32 t32 Root 9070699 1 =
-    answer-is Root 9070699 1 237 284001 394548762 268577418 394757418 true refl refl refl refl (root-entry 1 138 394548762 tt) refl in
-    omega (arith, at-answer Root 9070699 1 4 394757418 e near .over)
+    let e : 531044298 ≡ rawOf k32 t32 Root 16415029 1 =
+    answer-is Root 16415029 1 131 360643 530687931 268615716 531044298 true refl refl refl refl (root-entry 1 250 530687931 tt) refl in
+    omega (arith, at-answer Root 16415029 1 4 531044298 e near .over)
 
-pub inverse-root-beyond-four : Near InverseRoot k32 t32 13107251 0 4 (rawOf k32 t32 InverseRoot 13107251 0) → ⊥
+pub inverse-root-beyond-three : Near InverseRoot k32 t32 15794662 0 3 (rawOf k32 t32 InverseRoot 15794662 0) → ⊥
 unfolding factorOf signOf reducedOf sumOf
-inverse-root-beyond-four near =
-    let e : 214747943 ≡ rawOf k32 t32 InverseRoot 13107251 0 =
-    answer-is InverseRoot 13107251 0 163 1375216 214197154 269125715 214747943 false refl refl refl refl (inverse-root-entry 0 200 214197154 tt) refl in
-    omega (arith, at-answer InverseRoot 13107251 0 4 214747943 e near .over)
+inverse-root-beyond-three near =
+    let e : 195627386 ≡ rawOf k32 t32 InverseRoot 15794662 0 =
+    answer-is InverseRoot 15794662 0 135 1900534 194933634 269390796 195627386 false refl refl refl refl (inverse-root-entry 0 241 194933634 tt) refl in
+    omega (arith, at-answer InverseRoot 15794662 0 3 195627386 e near .over)

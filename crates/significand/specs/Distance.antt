@@ -22,8 +22,8 @@ pub record Near (op : Op) (k t y p d g : ℕ) : Type 0 where
   pub under : Under op k (3 * k + t - 1) y p (g - d)
   pub over : Over op k (3 * k + t - 1) y p (g + d)
 
--- the distances: under 12, 8 and 8 units of 1 / 2^(4k) [1 / 268,435,456]
+-- the distances: under 12, 7 and 7 units of 1 / 2^(4k) [1 / 268,435,456]
 abbrev pub boundOf : Op → ℕ
 boundOf Reciprocal = 12
-boundOf Root = 8
-boundOf InverseRoot = 8
+boundOf Root = 7
+boundOf InverseRoot = 7

@@ -2,12 +2,11 @@
 -- At k = 7 and t = 3, the numbers in brackets, these are document 01's steps. Assumes nothing.
 use Prim.Native.Nat.{ℕ, _+_, _*_, _-_, _/_, _%_, _^_}
 use mathlib.Core.Bool.{Bool, true, false}
-use lib.Dec.{leb}
 use lib.IntN.{ℤ, pos, negsuc, natAbs, _+ℤ_, _-ℤ_, _*ℤ_}
 use lib.Signed.{nonNeg}
 use Rattle.kinds.specs.declared.Op.{Op}
 use Rattle.kinds.specs.declared.Op.the-variants.{Reciprocal, Root, InverseRoot}
-use Rattle.numbers.specs.Greatest.{greatest}
+use Rattle.numbers.specs.Nearest.{nearestRoot}
 
 -- 1. i is y over 2^(2k + t − 1), floored [2^16]; R is 2^(2k + 1) over i, floored [32,768]
 unfoldable pub indexOf : ℕ → ℕ → ℕ → ℕ
@@ -68,12 +67,12 @@ divisorOf k InverseRoot = 16 * 2 ^ k
 abbrev pub seriesOf : ℕ → Op → Bool → ℕ → ℕ
 seriesOf k op positive a = natAbs (sumOf k op (unit positive) a) / divisorOf k op
 
--- 4. M by R and the parity p. Root: the largest whole w with w² × R ≤ 2^(9k + 1 + p) [64 + p];
--- inverse root: the largest whole w with w² × 2^(k + 1 + p) ≤ R × 2^(8k) [8 + p, 56]
+-- 4. M by R and the parity p: the reciprocal's, exact; the whole number nearest to the exact one, which is √(2^(9k + 1 + p) / R) for the
+-- root [64 + p] and √(R × 2^(8k) / 2^(k + 1 + p)) for the inverse root [56, 8 + p]
 unfoldable pub multiplierOf : ℕ → Op → ℕ → ℕ → ℕ
 multiplierOf k Reciprocal r p = r * 2 ^ (3 * k - 1)
-multiplierOf k Root r p = greatest (4 * k + 2) (λ (w : ℕ). leb (w * w * r) (2 ^ (9 * k + 1 + p)))
-multiplierOf k InverseRoot r p = greatest (4 * k + 2) (λ (w : ℕ). leb (w * w * 2 ^ (k + 1 + p)) (r * 2 ^ (8 * k)))
+multiplierOf k Root r p = nearestRoot (4 * k + 2) r (2 ^ (9 * k + 1 + p))
+multiplierOf k InverseRoot r p = nearestRoot (4 * k + 2) (2 ^ (k + 1 + p)) (r * 2 ^ (8 * k))
 
 -- 5. g is M × b over 2^(4k), floored [2^28]
 unfoldable pub rawOf : ℕ → ℕ → Op → ℕ → ℕ → ℕ
