@@ -1,4 +1,4 @@
--- The widths at which document 01 builds the raw unit, and the operands that it takes. Assumes nothing.
+-- The widths at which documents 01 and 02 build the raw unit, and the operands that it takes. Assumes nothing.
 use mathlib.Core.Path.{_≡_}
 use Prim.Native.Nat.{ℕ, _+_, _*_, _-_, _^_, _≤_, _<_}
 use Rattle.kinds.specs.declared.Op.{Op}
@@ -10,6 +10,13 @@ k32 = 7
 
 abbrev pub t32 : ℕ
 t32 = 3
+
+-- the same for significands of 53 bits
+abbrev pub k64 : ℕ
+k64 = 15
+
+abbrev pub t64 : ℕ
+t64 = 8
 
 -- y has 3k + t bits [8,388,608 to 16,777,215]
 pub record Significand (k t y : ℕ) : Type 0 where
