@@ -16,7 +16,7 @@ pub product-small : (m b : ℕ) → m < 2 ^ 30 → b < 2 ^ 29 → m * b < 2 ^ 59
 product-small m b hm hb = omega (arith, mul-le-mul {n₁ = m} {m₁ = b} {n₂ = 1073741823} {m₂ = 536870911} (omega arith) (omega arith))
 
 -- M times b of the reduced significand is the raw answer
-module _ (y r b g : ℕ) (d : Reduction) (e : r ≡ factorOf k32 (y / 65536)) (h : Reduced (y * r) d) where
+module _ (y r b g : ℕ) (d : Reduction) (e : r ≡ factorOf k32 (y / 65536)) (h : Reduced k32 t32 (y * r) d) where
   pub raw-is : (op : Op) (p m : ℕ) → m ≡ multiplierOf k32 op (factorOf k32 (y / 65536)) p → b ≡ seriesOf k32 op (d .positive) (d .magnitude)
       → g ≡ m * b / 268435456 → g ≡ rawOf k32 t32 op y p
   raw-is op p m em eb eg =

@@ -32,12 +32,12 @@ failed (pos m) n e = absurd (true≢false (sym (le-leb 0 m zero-le) ∙ e))
 failed (negsuc m) n e = refl
 
 -- the magnitude of d by its sign: d itself, or a number n less d, where n is 0
-module _ (d : ℤ) (small : natAbs d < 17179869184) where
+module _ (d : ℤ) (small : natAbs d < 4611686018427387904) where
   abbrev held-d : ℤ
   held-d = toZ w64 (ofZ w64 d)
 
   back : held-d ≡ d
-  back = held (d ∷ []) (17179869184 ∷ []) (omega arith, tt) (given 0) tt
+  back = held (d ∷ []) (4611686018427387904 ∷ []) (omega arith, tt) (given 0) tt
 
   pub same-sign : leZ (pos 0) held-d ≡ true → T (nonNeg held-d)
   same-sign = passed held-d
@@ -61,10 +61,10 @@ module _ (d : ℤ) (small : natAbs d < 17179869184) where
     pub turned-unsigned : Fits w64 (natAbs (toZ w64 (ofZ w64 (pos n -ℤ held-d))))
     turned-unsigned = rw held-turned (record { fits = omega arith })
 
-  pub turned-is : leZ (pos 0) held-d ≡ false → natAbs (toZ w64 (ofZ w64 (pos 0 -ℤ held-d))) / 8 ≡ natAbs d / 8
+  pub turned-is : leZ (pos 0) held-d ≡ false → natAbs (toZ w64 (ofZ w64 (pos 0 -ℤ held-d))) ≡ natAbs d
   turned-is e =
       let none : 0 + natAbs d ≡ natAbs d = omega arith in
-      ap (λ (z : ℤ). natAbs z / 8) (held-turned 0 (omega arith) e) ∙ ap (λ (n : ℕ). n / 8) none
+      ap natAbs (held-turned 0 (omega arith) e) ∙ none
 
 -- d, for a significand y and its R
 module _ (y r : ℕ) (Y : Significand k32 t32 y) (e : r ≡ factorOf k32 (y / 65536)) where
@@ -89,15 +89,15 @@ module _ (y r : ℕ) (Y : Significand k32 t32 y) (e : r ≡ factorOf k32 (y / 65
   difference-is : toZ w64 (ofZ w64 (toZ w64 (y * r) -ℤ pos 2147483648)) ≡ differenceOf k32 t32 u
   difference-is = held (pos u ∷ []) (8589934592 ∷ []) product-within difference tt
 
-  pub difference-small : natAbs (toZ w64 (ofZ w64 (toZ w64 (y * r) -ℤ pos 2147483648))) < 17179869184
+  pub difference-small : natAbs (toZ w64 (ofZ w64 (toZ w64 (y * r) -ℤ pos 2147483648))) < 4611686018427387904
   difference-small = omega (arith, bounded (pos u ∷ []) (8589934592 ∷ []) product-within difference tt)
 
   -- step 2
-  pub reduced-is : (m : ℕ) → m ≡ natAbs (toZ w64 (ofZ w64 (toZ w64 (y * r) -ℤ pos 2147483648))) / 8
-      → Reduced (y * r) (record { positive = leZ (pos 0) (toZ w64 (ofZ w64 (toZ w64 (y * r) -ℤ pos 2147483648))); magnitude = m })
+  pub reduced-is : (m : ℕ) → m ≡ natAbs (toZ w64 (ofZ w64 (toZ w64 (y * r) -ℤ pos 2147483648)))
+      → Reduced k32 t32 (y * r) (record { positive = leZ (pos 0) (toZ w64 (ofZ w64 (toZ w64 (y * r) -ℤ pos 2147483648))); magnitude = m / 8 })
   unfolding signOf reducedOf
   reduced-is m f =
-      let magnitude : m ≡ reducedOf k32 t32 u = f ∙ ap (λ (z : ℤ). natAbs z / 8) difference-is in
+      let magnitude : m / 8 ≡ reducedOf k32 t32 u = ap (λ (n : ℕ). n / 8) (f ∙ ap natAbs difference-is) in
       record {
         sign = ap (leZ (pos 0)) difference-is ∙ sign-test (differenceOf k32 t32 u);
         magnitude = magnitude;

@@ -1,4 +1,5 @@
-// Steps 2 and 3 of the raw unit at k = 7: the reduction of a significand, and the three series.
+// Steps 2 and 3 of the raw unit at k = 7: the reduction of a significand, and the three series. The sign, the magnitude and the form of
+// the terms are those of every k.
 ghost use mathlib.Core.Path.{_≡_};
 ghost use Prim.Native.Nat.{_+_, _*_, _/_, _≤_, _<_, _^_};
 ghost use lib.IntN.{pos, natAbs, _*ℤ_};
@@ -16,52 +17,48 @@ pub struct Reduction {
 // Step 2, for a significand y and its R.
 pub fn reduce(y: u32, r: u64) -> Reduction
     requires { ⌜ Significand k32 t32 y × (r ≡ factorOf k32 (y / 2 ^ 16)) ⌝ }
-    ensures { λ d. ⌜ Reduced (y * r) d ⌝ }
+    ensures { λ d. ⌜ Reduced k32 t32 (y * r) d ⌝ }
 {
     let d = ((y as u64) * r) as i64 - 2147483648;
     Reduction {
         positive: 0 <= d,
-        magnitude: magnitude(d),
+        magnitude: magnitude(d) / 8,
     }
 }
 
-// |d| over 8: it is the magnitude that is floored, whatever the sign.
-fn magnitude(d: i64) -> u64
-    requires { ⌜ natAbs d < 2 ^ 34 ⌝ }
-    ensures { λ r. ⌜ r ≡ natAbs d / 8 ⌝ }
+// |d|, which is what step 2 floors, whatever the sign.
+pub fn magnitude(d: i64) -> u64
+    requires { ⌜ natAbs d < 2 ^ 62 ⌝ }
+    ensures { λ r. ⌜ r ≡ natAbs d ⌝ }
 {
-    if 0 <= d {
-        d as u64 / 8
-    } else {
-        (0 - d) as u64 / 8
-    }
+    if 0 <= d { d as u64 } else { (0 - d) as u64 }
 }
 
 // The sign s, +1 or −1, and a product by it.
-fn unit(positive: bool) -> i64
+pub fn unit(positive: bool) -> i64
     ensures { λ r. ⌜ r ≡ Steps·unit positive ⌝ }
 {
     if positive { 1 } else { -1 }
 }
 
-fn times(s: i64, x: u64) -> i64
-    requires { ⌜ (natAbs s ≤ 1) × (x < 2 ^ 21) ⌝ }
+pub fn times(s: i64, x: u64) -> i64
+    requires { ⌜ (natAbs s ≤ 1) × (x < 2 ^ 62) ⌝ }
     ensures { λ r. ⌜ r ≡ s *ℤ pos x ⌝ }
 {
     s * x as i64
 }
 
 // What the three sums are made of: s·a, a2², a2·a3 and s·h·a2.
-struct Terms {
-    linear: i64,
-    square: i64,
-    cross: i64,
-    cube: i64,
+pub struct Terms {
+    pub linear: i64,
+    pub square: i64,
+    pub cross: i64,
+    pub cube: i64,
 }
 
 fn terms_of(positive: bool, a: u64) -> Terms
     requires { ⌜ a < 2 ^ 21 ⌝ }
-    ensures { λ r. ⌜ TermsOf positive a r ⌝ }
+    ensures { λ r. ⌜ TermsOf k32 positive a r ⌝ }
 {
     let s = unit(positive);
     let a2 = (a / 16384) as u32;

@@ -58,7 +58,7 @@ module _ (k a : ℕ) where
       }
 
 -- s times a number
-times-unit : (positive : Bool) (n : ℕ) → unit positive *ℤ pos n ≡ subℕ (cond positive n 0) (cond positive 0 n)
+pub times-unit : (positive : Bool) (n : ℕ) → unit positive *ℤ pos n ≡ subℕ (cond positive n 0) (cond positive 0 n)
 times-unit true n = diff-pos (1 * n) ∙ diff-eq (1 * n) 0 n 0 (omega arith)
 times-unit false n = neg-pos (1 * n) ∙ diff-eq 0 (1 * n) 0 n (omega arith)
 
@@ -74,17 +74,17 @@ module _ (k a a2 a3 h : ℕ) where
     abbrev down : ℕ → ℕ
     down n = cond sign 0 n
 
-    added : Op → ℕ
+    unfoldable pub added : Op → ℕ
     added Reciprocal = 2 ^ k * (2 ^ (4 * k) + down a + a2 * a2) + 2 * a2 * a3 + down (h * a2)
     added Root = 16 * 2 ^ k * 2 ^ (4 * k) + 8 * 2 ^ k * up a + up (h * a2)
     added InverseRoot = 16 * 2 ^ k * 2 ^ (4 * k) + 8 * 2 ^ k * down a + 6 * 2 ^ k * a2 * a2 + 12 * a2 * a3 + 5 * down (h * a2)
 
-    taken : Op → ℕ
+    unfoldable pub taken : Op → ℕ
     taken Reciprocal = 2 ^ k * up a + up (h * a2)
     taken Root = 8 * 2 ^ k * down a + 2 * 2 ^ k * a2 * a2 + 4 * a2 * a3 + down (h * a2)
     taken InverseRoot = 8 * 2 ^ k * up a + 5 * up (h * a2)
 
-    difference : (op : Op) → sumOver k op (unit sign) a a2 a3 h ≡ subℕ (added op) (taken op)
+    pub difference : (op : Op) → sumOver k op (unit sign) a a2 a3 h ≡ subℕ (added op) (taken op)
     unfolding added taken
     difference Reciprocal = rw (times-unit sign a, times-unit sign (h * a2), less-diff, diff-more, diff-times, diff-more, diff-sub)
     difference Root = rw (times-unit sign a, times-unit sign (h * a2), diff-times, more-diff, diff-less, diff-less, diff-add)

@@ -1,8 +1,11 @@
 -- `series::inverse_root_series` meets its contract. Assumes nothing.
+use native.Mathlib.Omega.{arith}
 use borrow.Author.Needs.{needs}
 use Rattle.kinds.specs.declared.Op.the-variants.{InverseRoot}
+use Rattle.significand.specs.Width.{k32}
 use Rattle.numbers.proofs.Signed.{X, _⊞_, _⊟_, _⊠_}
-use Rattle.series.proofs.Sums.{linear, square, cross, cube, #, sumX, step-fits, not-negative, unsigned-fits, series-is, series-small}
+use Rattle.series.proofs.Steps.{linear, square, cross, cube, #, step-fits}
+use Rattle.series.proofs.Sums.{sumX, not-negative, unsigned-fits, series-is, series-small}
 use Rattle.series.proofs.inverse_root_series.Statement.{statement}
 use Rattle.series.proofs.inverse_root_series.Tie as tie
 
@@ -20,28 +23,28 @@ terms-of-requires : tie.Need-terms-of-requires
 terms-of-requires c κs = search needs
 
 mul-sum : tie.Need-mul-sum
-mul-sum c = search (step-fits (# 1024 ⊠ linear) tt)
+mul-sum c = search (step-fits k32 (# 1024 ⊠ linear) (omega arith) tt)
 
 sub-sum : tie.Need-sub-sum
-sub-sum c = search (step-fits one tt)
+sub-sum c = search (step-fits k32 one (omega arith) tt)
 
 mul-sum-2 : tie.Need-mul-sum-2
-mul-sum-2 c = search (step-fits (# 768 ⊠ square) tt)
+mul-sum-2 c = search (step-fits k32 (# 768 ⊠ square) (omega arith) tt)
 
 add-sum : tie.Need-add-sum
-add-sum c = search (step-fits two tt)
+add-sum c = search (step-fits k32 two (omega arith) tt)
 
 mul-sum-3 : tie.Need-mul-sum-3
-mul-sum-3 c = search (step-fits (# 12 ⊠ cross) tt)
+mul-sum-3 c = search (step-fits k32 (# 12 ⊠ cross) (omega arith) tt)
 
 add-sum-2 : tie.Need-add-sum-2
-add-sum-2 c = search (step-fits three tt)
+add-sum-2 c = search (step-fits k32 three (omega arith) tt)
 
 mul-sum-4 : tie.Need-mul-sum-4
-mul-sum-4 c = search (step-fits (# 5 ⊠ cube) tt)
+mul-sum-4 c = search (step-fits k32 (# 5 ⊠ cube) (omega arith) tt)
 
 sub-sum-2 : tie.Need-sub-sum-2
-sub-sum-2 c = search (step-fits (sumX InverseRoot) tt)
+sub-sum-2 c = search (step-fits k32 (sumX InverseRoot) (omega arith) tt)
 
 cast-result : tie.Need-cast-result
 cast-result c = (search (not-negative InverseRoot), search (unsigned-fits InverseRoot))

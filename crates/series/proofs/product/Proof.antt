@@ -6,10 +6,10 @@ use Rattle.series.proofs.product.Statement.{statement}
 use Rattle.series.proofs.product.Tie as tie
 
 mul-result : tie.Need-mul-result
-mul-result c = omega (arith, digits-product (c .args .a) (c .args .b) (c .pre .0) (c .pre .1))
+mul-result c = omega (arith, digits-product 128 (c .args .a) (c .args .b) (c .pre .0) (c .pre .1))
 
 returns : tie.Need-returns
-returns c = (refl, digits-product (c .args .a) (c .args .b) (c .pre .0) (c .pre .1))
+returns c = (refl, digits-product 128 (c .args .a) (c .args .b) (c .pre .0) (c .pre .1))
 
 pub product-spec : {M : Type 1} → statement M
 product-spec = tie.close (tie.spec mul-result returns)

@@ -1,8 +1,11 @@
 -- `series::root_series` meets its contract. Assumes nothing.
+use native.Mathlib.Omega.{arith}
 use borrow.Author.Needs.{needs}
 use Rattle.kinds.specs.declared.Op.the-variants.{Root}
+use Rattle.significand.specs.Width.{k32}
 use Rattle.numbers.proofs.Signed.{X, _⊞_, _⊟_, _⊠_}
-use Rattle.series.proofs.Sums.{linear, square, cross, #, sumX, step-fits, not-negative, unsigned-fits, series-is, series-small}
+use Rattle.series.proofs.Steps.{linear, square, cross, #, step-fits}
+use Rattle.series.proofs.Sums.{sumX, not-negative, unsigned-fits, series-is, series-small}
 use Rattle.series.proofs.root_series.Statement.{statement}
 use Rattle.series.proofs.root_series.Tie as tie
 
@@ -20,25 +23,25 @@ terms-of-requires : tie.Need-terms-of-requires
 terms-of-requires c κs = search needs
 
 mul-sum : tie.Need-mul-sum
-mul-sum c = search (step-fits (# 1024 ⊠ linear) tt)
+mul-sum c = search (step-fits k32 (# 1024 ⊠ linear) (omega arith) tt)
 
 add-sum : tie.Need-add-sum
-add-sum c = search (step-fits one tt)
+add-sum c = search (step-fits k32 one (omega arith) tt)
 
 mul-sum-2 : tie.Need-mul-sum-2
-mul-sum-2 c = search (step-fits (# 256 ⊠ square) tt)
+mul-sum-2 c = search (step-fits k32 (# 256 ⊠ square) (omega arith) tt)
 
 sub-sum : tie.Need-sub-sum
-sub-sum c = search (step-fits two tt)
+sub-sum c = search (step-fits k32 two (omega arith) tt)
 
 mul-sum-3 : tie.Need-mul-sum-3
-mul-sum-3 c = search (step-fits (# 4 ⊠ cross) tt)
+mul-sum-3 c = search (step-fits k32 (# 4 ⊠ cross) (omega arith) tt)
 
 sub-sum-2 : tie.Need-sub-sum-2
-sub-sum-2 c = search (step-fits three tt)
+sub-sum-2 c = search (step-fits k32 three (omega arith) tt)
 
 add-sum-2 : tie.Need-add-sum-2
-add-sum-2 c = search (step-fits (sumX Root) tt)
+add-sum-2 c = search (step-fits k32 (sumX Root) (omega arith) tt)
 
 cast-result : tie.Need-cast-result
 cast-result c = (search (not-negative Root), search (unsigned-fits Root))

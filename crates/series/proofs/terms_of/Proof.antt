@@ -1,6 +1,8 @@
 -- `series::terms_of` meets its contract. Assumes nothing.
 use borrow.Author.Needs.{needs}
-use Rattle.series.proofs.Sums.{unit-small, terms-are}
+use native.Mathlib.Omega.{arith}
+use Rattle.significand.specs.Width.{k32}
+use Rattle.series.proofs.Steps.{unit-small, terms-are}
 use Rattle.series.proofs.terms_of.Statement.{statement}
 use Rattle.series.proofs.terms_of.Tie as tie
 
@@ -38,7 +40,7 @@ times-requires-2 : tie.Need-times-requires-2
 times-requires-2 c κs = (search (needs, unit-small), search needs)
 
 returns : tie.Need-returns
-returns c = search terms-are
+returns c = search (terms-are k32 (omega arith))
 
 pub terms-of-spec : {M : Type 1} → statement M
 terms-of-spec =

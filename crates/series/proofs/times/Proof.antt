@@ -1,6 +1,6 @@
 -- `series::times` meets its contract. Assumes nothing.
 use borrow.Author.Needs.{needs}
-use Rattle.series.proofs.Sums.{times-fits, times-is}
+use Rattle.series.proofs.Steps.{times-fits, times-is}
 use Rattle.series.proofs.times.Statement.{statement}
 use Rattle.series.proofs.times.Tie as tie
 
