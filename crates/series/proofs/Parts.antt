@@ -19,7 +19,7 @@ use Rattle.series.specs.Parts.{Reduced}
 use Rattle.series.proofs.Bounds.{reduced-product}
 
 -- a test of the sign
-sign-test : (z : ℤ) → leZ (pos 0) z ≡ nonNeg z
+pub sign-test : (z : ℤ) → leZ (pos 0) z ≡ nonNeg z
 sign-test (pos n) = le-leb 0 n zero-le
 sign-test (negsuc n) = refl
 

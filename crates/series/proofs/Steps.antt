@@ -126,4 +126,3 @@ module _ (k : ℕ) (big : 7 ≤ k) (positive : Bool) (a : ℕ) (t : Terms) (belo
 pub step-fits : (k : ℕ) (x : X) → 7 ≤ k → T (fine (tops k) x) → (positive : Bool) (a : ℕ) (t : Terms) → a < 2 ^ (3 * k) → TermsOf k positive a t
     → SFits w64 (worked (numbers t) x)
 step-fits k x big f positive a t below h = fits (numbers t) (tops k) (within k big positive a t below h) x f
-

@@ -188,6 +188,9 @@ module _ (k a : ℕ) (h : 7 ≤ k) (below : a < 2 ^ (3 * k)) (op : Op) (sign : B
   least-rest : less-rest k a a2 a3 carry sign op ≤ more-rest k a a2 a3 carry sign op
   least-rest = rest-least k a a2 a3 carry cube op sign
 
+  whole-natural : natAbs (wholeOf k op sign a) + less-whole k a a2 a3 carry sign op ≡ more-whole k a a2 a3 carry sign op
+  whole-natural = rw (whole-is k a a2 a3 carry sign op) (natural (more-whole k a a2 a3 carry sign op) (less-whole k a a2 a3 carry sign op) least-whole)
+
   pub whole-not-negative : T (nonNeg (wholeOf k op sign a))
   whole-not-negative = rw (whole-is k a a2 a3 carry sign op) (not-less _ _ least-whole)
 
@@ -204,9 +207,15 @@ module _ (k a : ℕ) (h : 7 ≤ k) (below : a < 2 ^ (3 * k)) (op : Op) (sign : B
   series-joined =
       quotient k a a2 a3 carry _ _ _ op
       (joins k a a2 a3 carry _ _ _ op sign
-      (rw (whole-is k a a2 a3 carry sign op) (natural _ _ least-whole))
+      whole-natural
       (rw (rest-is k a a2 a3 carry sign op) (natural _ _ least-rest))
       (rw (difference k a a2 a3 carry sign op) (natural _ _ fits)))
+
+-- the first terms of the root are at least 2 N − a
+pub root-least : (k a : ℕ) → 7 ≤ k → a < 2 ^ (3 * k) → (sign : Bool) → 2 * 2 ^ (4 * k) ≤ natAbs (wholeOf k Root sign a) + a
+unfolding more-whole less-whole
+root-least k a h below true = omega (arith, whole-natural k a h below Root true)
+root-least k a h below false = omega (arith, whole-natural k a h below Root false)
 
 -- Step 2 in shorter numbers: with y = i w + f, where w is 2^(2k + t − 1), and with what R leaves of 2^(2k + 1), d is f R less w times that
 module _ (k t y r : ℕ) (h : 1 ≤ k) where
