@@ -1,13 +1,14 @@
--- `greatest` gives the greatest number below 2^n that passes; and the squares' test, which roots and offsets use.
--- Assumes nothing.
+-- `greatest` gives the greatest number below 2^n that passes, so that a test passes the numbers up to it; and the squares' test, which
+-- roots and offsets use. Assumes nothing.
 use mathlib.Core.Path.{_≡_, refl, subst, sym, ap, _∙_}
-use mathlib.Core.Bool.{Bool, true, false}
+use mathlib.Core.Bool.{Bool, true, false, not, _&&_}
 use mathlib.Core.Logic.{by-cases}
 use Prim.Native.Nat.{ℕ, zero, suc, _+_, _*_, _^_, _≤_, _<_, zero-le}
 use native.Mathlib.Nat.{pow-suc, zero-add, le-trans, mul-le-mul, mul-le-mul-right}
 use native.Mathlib.Decide.{decLt}
 use native.Mathlib.Omega.{arith}
-use lib.Dec.{T, leb, leb→le, le→leb}
+use borrow.Author.Tests.{le-leb, lt-leb, eq-eqb, ne-eqb}
+use lib.Dec.{T, leb, eqb, leb→le, le→leb}
 use Rattle.numbers.specs.Greatest.{keep, greatestFrom, greatest}
 
 -- g is at least w and below m, passes the test, and the next number, where it is below m, does not
@@ -60,6 +61,29 @@ module _ (n : ℕ) (test : ℕ → Bool) where
       let f = greatest-found (anti 0 x zero-le t) in
       let low = greatest-above anti x t h in
       by-cases (decLt x (greatest n test)) (λ l. absurd (fails (anti (suc x) (greatest n test) l (f .passes)))) (λ l. omega arith)
+
+  -- and the test passes exactly the numbers up to it, where it fails one below 2^n
+  pub greatest-upto : Antitone test → T (test 0) → (x : ℕ) → (T (test x) → ⊥) → x < 2 ^ n → (w : ℕ) → test w ≡ leb w (greatest n test)
+  greatest-upto anti t x fails h w = go (test w) refl
+    where
+      go : (b : Bool) → test w ≡ b → test w ≡ leb w (greatest n test)
+      go true e =
+          let passes : T (test w) = subst T (sym e) tt in
+          let below : w < x = by-cases (decLt w x) (λ l. l) (λ l. absurd (fails (anti x w (omega arith) passes))) in
+          e ∙ sym (le-leb w (greatest n test) (greatest-above anti w passes (omega arith)))
+      go false e =
+          let above : greatest n test < w =
+          by-cases (decLt (greatest n test) w) (λ l. l) (λ l. absurd (subst T e (anti w (greatest n test) (omega arith) (greatest-found t .passes)))) in
+          e ∙ sym (lt-leb w (greatest n test) above)
+
+-- a number is g where it is at most g while the next is not
+pub last-upto : (m g : ℕ) → leb m g && not (leb (suc m) g) ≡ eqb m g
+last-upto m g =
+    by-cases (decLt m g)
+    (λ l. rw (le-leb m g (omega arith), le-leb (suc m) g (omega arith), ne-eqb m g (λ e. omega arith)))
+    (λ l.
+    rw (lt-leb (suc m) g (omega arith))
+    (by-cases (decLt g m) (λ k. rw (lt-leb m g k, ne-eqb m g (λ e. omega arith))) (λ k. rw (le-leb m g (omega arith), eq-eqb m g (omega arith)))))
 
 -- the square of w, times a, is at most b
 abbrev pub squareFits : ℕ → ℕ → ℕ → Bool

@@ -4,13 +4,13 @@ use mathlib.Core.Path.{_≡_, ap}
 use mathlib.Core.Bool.{Bool, _&&_}
 use mathlib.Core.Logic.{by-cases}
 use Prim.Native.Nat.{ℕ, zero, suc, _+_, _*_, _-_, _^_, _≤_, _<_}
-use native.Mathlib.Nat.{pow-suc, mul-le-mul, mul-le-mul-right, lt-of-le-of-lt, lt-of-lt-of-le}
+use native.Mathlib.Nat.{pow-suc, mul-le-mul, mul-le-mul-right, le-refl, lt-of-le-of-lt, lt-of-lt-of-le}
 use native.Mathlib.Decide.{decLt}
 use native.Mathlib.Omega.{arith}
-use mir.Facts.{and-yes, ltb-yes, yes-ltb}
-use lib.Dec.{T, ltb}
+use mir.Facts.{and-yes, ltb-yes, yes-ltb, leb-yes, yes-leb}
+use lib.Dec.{T, ltb, leb}
 use Rattle.numbers.specs.Nearest.{halfBelow, nearestRoot, Nearest, Tie, WithinOne}
-use Rattle.numbers.proofs.Greatest.{Found, Antitone, greatest-found, greatest-is}
+use Rattle.numbers.proofs.Greatest.{Antitone, greatest-is, greatest-upto}
 
 -- ---- no tie
 
@@ -63,18 +63,22 @@ middles d n w low high =
       more = λ v h. let i : 2 * w + 1 ≤ v + w = omega arith in lt-of-lt-of-le high (scaled d i);
     }
 
--- `nearestRoot` gives it, where some number below 2^b is too large and no tie occurs
+-- the numbers whose half below is under √(n / d) are those up to `nearestRoot`, where some number below 2^b is too large
+pub half-upto : (b d n x : ℕ) → 0 < n → x < 2 ^ b → 4 * n ≤ (2 * x - 1) * (2 * x - 1) * d → (w : ℕ) → halfBelow d n w ≡ leb w (nearestRoot b d n)
+half-upto b d n x some small large =
+    greatest-upto b (halfBelow d n) (half-antitone d n) (yes-half d n 0 (omega arith)) x (λ t. let i = half-yes d n x t in omega arith) small
+
+-- so it is nearest, where no tie occurs
 pub nearest-root : (b d n x : ℕ) → 0 < n → x < 2 ^ b → 4 * n ≤ (2 * x - 1) * (2 * x - 1) * d → ((w : ℕ) → Tie d n w → ⊥)
     → Nearest d n (nearestRoot b d n)
 nearest-root b d n x some small large untied =
     let g : ℕ = nearestRoot b d n in
-    let f : Found (halfBelow d n) 0 (2 ^ b) g = greatest-found b (halfBelow d n) (yes-half d n 0 (omega arith)) in
-    let low : (2 * g - 1) * (2 * g - 1) * d < 4 * n = half-yes d n g (f .passes) in
-    let below : g < x =
-    by-cases (decLt g x) (λ i. i) (λ i. let j : 2 * x - 1 ≤ 2 * g - 1 = omega arith in omega (arith, scaled d j)) in
+    let upto : (w : ℕ) → halfBelow d n w ≡ leb w g = half-upto b d n x some small large in
+    let low : T (halfBelow d n g) = rw upto (yes-leb (le-refl g)) in
     let high : 4 * n ≤ (2 * g + 1) * (2 * g + 1) * d =
-    by-cases (decLt ((2 * g + 1) * (2 * g + 1) * d) (4 * n)) (λ i. absurd (f .last (omega arith) (yes-next d n g i))) (λ i. omega arith) in
-    middles d n g low (by-cases (decLt (4 * n) ((2 * g + 1) * (2 * g + 1) * d)) (λ i. i) (λ i. absurd (untied g (omega arith))))
+    by-cases (decLt ((2 * g + 1) * (2 * g + 1) * d) (4 * n)) (λ i. let l : suc g ≤ g = leb-yes (rw upto at (yes-next d n g i)) in omega arith) (λ i. omega arith) in
+    middles d n g (half-yes d n g low)
+    (by-cases (decLt (4 * n) ((2 * g + 1) * (2 * g + 1) * d)) (λ i. i) (λ i. absurd (untied g (omega arith))))
 
 -- the nearest is less than one away
 pub nearest-within : (d n w : ℕ) → 0 < n → Nearest d n w → WithinOne d n w
