@@ -29,13 +29,13 @@ use Rattle.binary32.proofs.Scales.{scaleOf, parityOf, guarded}
 
 -- the raw answers are near
 pub reciprocal-near : (y g : ℕ) → Significand k32 t32 y → g ≡ rawOf k32 t32 Reciprocal y 0 → Near Reciprocal k32 t32 y 0 (boundOf Reciprocal) g
-reciprocal-near y g Y e = raw-near Reciprocal y 0 g Y (omega arith) e
+reciprocal-near y g Y e = raw-near k32 t32 (omega arith) Reciprocal y 0 g Y (omega arith) e
 
 pub root-near : (y n g : ℕ) → Significand k32 t32 y → g ≡ rawOf k32 t32 Root y (n % 2) → Near Root k32 t32 y (n % 2) (boundOf Root) g
-root-near y n g Y e = raw-near Root y (n % 2) g Y (omega arith) e
+root-near y n g Y e = raw-near k32 t32 (omega arith) Root y (n % 2) g Y (omega arith) e
 
 pub inverse-root-near : (y n g : ℕ) → Significand k32 t32 y → g ≡ rawOf k32 t32 InverseRoot y (n % 2) → Near InverseRoot k32 t32 y (n % 2) (boundOf InverseRoot) g
-inverse-root-near y n g Y e = raw-near InverseRoot y (n % 2) g Y (omega arith) e
+inverse-root-near y n g Y e = raw-near k32 t32 (omega arith) InverseRoot y (n % 2) g Y (omega arith) e
 
 -- a floor has 25 bits, or is 2^25
 floor-small : (op : Op) (y p : ℕ) (r : Partial) → Significand k32 t32 y → p ≤ 1 → Reached op y (targetOf op y p) r 0 → r .quotient ≤ 2 ^ 25

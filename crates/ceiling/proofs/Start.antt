@@ -126,7 +126,7 @@ module _ (n y j : ℕ) (leading : LeadingOf n y j) (small : n < 2 ^ 44) where
 
   module _ (g : ℕ) (raw : g ≡ rawOf k32 t32 Root y (j % 2)) where
     near : Near Root k32 t32 y (j % 2) D g
-    near = raw-near Root y (j % 2) g (leading .significand) (parity-most j) raw
+    near = raw-near k32 t32 (omega arith) Root y (j % 2) g (leading .significand) (parity-most j) raw
 
     -- the raw root's distance, without its scale
     raw-below : (g - D) * (g - D) + 1 ≤ y * 2 ^ (j % 2) * 2 ^ 33

@@ -81,7 +81,7 @@ lowered g = g - (boundOf InverseRoot + 16)
 
 module _ (q y j : ℕ) (leading : LeadingOf q y j) (g : ℕ) (raw : g ≡ rawOf k32 t32 InverseRoot y (j % 2)) where
   near : Near InverseRoot k32 t32 y (j % 2) (boundOf InverseRoot) g
-  near = raw-near InverseRoot y (j % 2) g (leading .significand) (parity-most j) raw
+  near = raw-near k32 t32 (omega arith) InverseRoot y (j % 2) g (leading .significand) (parity-most j) raw
 
   inverse-near : (boundOf InverseRoot + 16 ≤ g) × InverseOf q (lowered g) (27 + j / 2)
   inverse-near =

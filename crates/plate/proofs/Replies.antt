@@ -15,7 +15,7 @@ module _ (operation y p n : ℕ) (e : n ≡ rawRefusal operation y p) where
 
   module _ (z : n ≡ 0) (op : Op) (named : op ≡ opOf operation) where
     -- what the work asks
-    pub operand-of : Operand op y p
+    pub operand-of : Operand k32 t32 op y p
     operand-of = rw named (accepted operation y p (sym e ∙ z))
 
     pub answered : (g : ℕ) → g ≡ rawOf k32 t32 op y p → record { refusal = n; answer = g } ≡ rawCall operation y p

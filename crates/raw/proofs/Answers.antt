@@ -29,7 +29,7 @@ module _ (y r b g : ℕ) (d : Reduction) (e : r ≡ factorOf k32 (y / 65536)) (h
 
 -- the answer by the operation
 module _ (op : Op) (y p g : ℕ) where
-  pub reciprocal-answer : op ≡ Reciprocal → Operand op y p → g ≡ rawOf k32 t32 Reciprocal y 0 → g ≡ rawOf k32 t32 op y p
+  pub reciprocal-answer : op ≡ Reciprocal → Operand k32 t32 op y p → g ≡ rawOf k32 t32 Reciprocal y 0 → g ≡ rawOf k32 t32 op y p
   reciprocal-answer o h e = rw (h .even o, o) e
 
   pub case-answer : (case : Op) → op ≡ case → g ≡ rawOf k32 t32 case y p → g ≡ rawOf k32 t32 op y p

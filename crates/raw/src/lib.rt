@@ -33,7 +33,7 @@ pub fn refusal(operation: u8, significand: u32, parity: u8) -> u8
 
 // The answer of an operation.
 pub fn answer(op: Op, significand: u32, parity: u8) -> u32
-    requires { ⌜ Operand op significand parity ⌝ }
+    requires { ⌜ Operand k32 t32 op significand parity ⌝ }
     ensures { λ r. ⌜ r ≡ rawOf k32 t32 op significand parity ⌝ }
 {
     match op {

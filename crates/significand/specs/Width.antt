@@ -23,8 +23,8 @@ pub record Significand (k t y : ℕ) : Type 0 where
   pub least : 2 ^ (3 * k + t - 1) ≤ y
   pub below : y < 2 ^ (3 * k + t)
 
--- what an operation takes: a significand of 24 bits and a parity, which is 0 for the reciprocal
-pub record Operand (op : Op) (y p : ℕ) : Type 0 where
-  pub significand : Significand k32 t32 y
+-- what an operation takes: a significand and a parity, which is 0 for the reciprocal
+pub record Operand (k t : ℕ) (op : Op) (y p : ℕ) : Type 0 where
+  pub significand : Significand k t y
   pub parity : p ≤ 1
   pub even : op ≡ Reciprocal → p ≡ 0
