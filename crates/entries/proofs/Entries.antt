@@ -14,7 +14,7 @@ use Rattle.numbers.proofs.Greatest.{last-upto}
 use Rattle.significand.specs.Width.{k64}
 use Rattle.significand.specs.Steps.{multiplierOf}
 use Rattle.significand.proofs.Multiplier.{root-upto, inverse-root-upto}
-use Rattle.significand.proofs.Sizes.{multiplier-upto}
+use Rattle.significand.proofs.Sizes.{multiplier64-most}
 
 module _ (op : Op) (w r p : ℕ) (least : 2 ^ 15 ≤ r) (most : r ≤ 2 ^ 16) (parity : p ≤ 1) where
   -- a law for each operation
@@ -38,5 +38,4 @@ module _ (op : Op) (w r p : ℕ) (least : 2 ^ 15 ≤ r) (most : r ≤ 2 ^ 16) (p
   holds-is a b ea eb = rw (ea, eb, add-one) (last-upto w (multiplierOf k64 op r p))
 
   pub large-is-none : 2 ^ 61 < w → false ≡ eqb w (multiplierOf k64 op r p)
-  large-is-none h =
-      sym (ne-eqb w (multiplierOf k64 op r p) (λ e. omega (arith, multiplier-upto k64 r p (omega arith) parity least most op)))
+  large-is-none h = sym (ne-eqb w (multiplierOf k64 op r p) (λ e. omega (arith, multiplier64-most op r p least most parity)))

@@ -1,9 +1,9 @@
--- The sizes of R, a and M at k = 7 and t = 3, by which all that the steps work out fits 64 bits. Assumes nothing.
+-- The sizes of R, a and M at k = 7 and t = 3, and of M at k = 15, by which all that the steps work out fits 64 bits. Assumes nothing.
 use mathlib.Core.Path.{_≡_}
 use Prim.Native.Nat.{ℕ, _+_, _*_, _/_, _^_, _≤_, _<_}
 use native.Mathlib.Omega.{arith}
 use Rattle.kinds.specs.declared.Op.{Op}
-use Rattle.significand.specs.Width.{k32, t32, Significand}
+use Rattle.significand.specs.Width.{k32, t32, k64, Significand}
 use Rattle.significand.specs.Steps.{factorOf, reducedOf, multiplierOf}
 use Rattle.significand.proofs.General.{multiplier-most}
 use Rattle.significand.proofs.Reduction.{least, most, reduced-small as reduced-below}
@@ -11,7 +11,7 @@ use Rattle.significand.proofs.Multiplier.{multiplies}
 use Rattle.significand.proofs.Numerals.{index-is}
 
 -- M is at most 2^(4k + 1)
-pub multiplier-upto : (k r p : ℕ) → 7 ≤ k → p ≤ 1 → 2 ^ k ≤ r → r ≤ 2 ^ (k + 1) → (op : Op) → multiplierOf k op r p ≤ 2 ^ (4 * k + 1)
+multiplier-upto : (k r p : ℕ) → 7 ≤ k → p ≤ 1 → 2 ^ k ≤ r → r ≤ 2 ^ (k + 1) → (op : Op) → multiplierOf k op r p ≤ 2 ^ (4 * k + 1)
 multiplier-upto k r p h e least most op =
     multiplier-most k r p (multiplierOf k op r p) h e least most op (multiplies k r p (omega arith) e least most op)
 
@@ -35,3 +35,7 @@ module _ (y : ℕ) (Y : Significand k32 t32 y) where
   pub multiplier-small : (op : Op) (p m : ℕ) → p ≤ 1 → m ≡ multiplierOf k32 op (factorOf k32 (y / 65536)) p → m < 2 ^ 30
   multiplier-small op p m h e =
       rw e (omega (arith, multiplier-upto k32 (factorOf k32 (y / 65536)) p (omega arith) h factor-least factor-most op))
+
+-- at k = 15 M has 62 bits
+pub multiplier64-most : (op : Op) (r p : ℕ) → 2 ^ 15 ≤ r → r ≤ 2 ^ 16 → p ≤ 1 → multiplierOf k64 op r p ≤ 2 ^ 61
+multiplier64-most op r p least most parity = multiplier-upto k64 r p (omega arith) parity least most op
