@@ -15,7 +15,7 @@ use Rattle.significand.specs.Steps.{indexOf, factorOf, signOf, reducedOf, serie
 use Rattle.significand.specs.Tables.{tablesBefore, tablesLength, placeOf}
 use Rattle.significand.specs.Call.{isLent, isEntry, raw64Door}
 use Rattle.significand.proofs.Reduction.{index-least, index-below}
-use Rattle.significand.proofs.Sizes.{multiplier-upto}
+use Rattle.significand.proofs.Sizes.{multiplier64-most}
 use Rattle.series.specs.declared.Reduction.{Reduction}
 use Rattle.series.specs.Parts.{Reduced}
 use Rattle.raw64.specs.declared.Tried.{Tried}
@@ -94,7 +94,7 @@ module _ (op : Op) (y p r m : ℕ) (table : List ℕ) (er : r ≡ factorOf k64 (
 
   -- has 62 bits at most
   pub held-small : 32768 ≤ r → r ≤ 65536 → p ≤ 1 → holds ≡ true → m ≤ 2 ^ 61
-  held-small least most parity e = rw (held-is e) (multiplier-upto k64 r p (omega arith) parity least most op)
+  held-small least most parity e = rw (held-is e) (multiplier64-most op r p least most parity)
 
   pub tried-is : (b g : ℕ) (d : Reduction) → Reduced k64 t64 (y * r) d → b ≡ seriesOf k64 op (d .positive) (d .magnitude)
       → g ≡ m * b / 2 ^ 60 → holds ≡ true → record { holds = true; answer = g } ≡ triedOf op y p table
