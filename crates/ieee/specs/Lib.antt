@@ -5,3 +5,4 @@ pub mod Call
 pub mod Agree
 pub mod Bracket
 pub mod Guarded
+pub mod Floor
