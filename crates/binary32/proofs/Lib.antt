@@ -1,3 +1,2 @@
-pub mod Scales
 pub mod Results
 pub mod Answers

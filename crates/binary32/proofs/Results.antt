@@ -17,15 +17,17 @@ use Rattle.significand.proofs.Accepted.{raw-near}
 use Rattle.ieee.specs.Format.{binary32, magnitudeOf}
 use Rattle.pattern.specs.Parts.{patternOf}
 use Rattle.pattern.specs.Operand.{Scaling}
-use Rattle.floors.specs.Floor.{targetOf, Reached}
+use Rattle.ieee.specs.Floor.{targetOf}
+use Rattle.ieee.proofs.Targets.{quotient-small}
+use Rattle.ieee.proofs.Scales.{scaleOf, parityOf, guarded}
+use Rattle.floors.specs.Floor.{Reached}
 use Rattle.floors.specs.Neighbour.{neighbourOf}
 use Rattle.binary32.specs.Below.{BelowResult}
 use Rattle.pattern.specs.declared.operand.Scaled.{Scaled}
 use Rattle.floors.specs.declared.Partial.{Partial}
 use Rattle.floors.specs.declared.neighbour.Neighbour.{Neighbour}
-use Rattle.floors.proofs.Reaching.{quotient-small}
+use Rattle.floors.proofs.Reaching.{floored}
 use Rattle.floors.proofs.Below.{neighbour-below}
-use Rattle.binary32.proofs.Scales.{scaleOf, parityOf, guarded}
 
 -- the raw answers are near
 pub reciprocal-near : (y g : ℕ) → Significand k32 t32 y → g ≡ rawOf k32 t32 Reciprocal y 0 → Near Reciprocal k32 t32 y 0 (boundOf Reciprocal) g
@@ -38,8 +40,8 @@ pub inverse-root-near : (y n g : ℕ) → Significand k32 t32 y → g ≡ rawOf 
 inverse-root-near y n g Y e = raw-near k32 t32 (omega arith) InverseRoot y (n % 2) g Y (omega arith) e
 
 -- a floor has 25 bits, or is 2^25
-floor-small : (op : Op) (y p : ℕ) (r : Partial) → Significand k32 t32 y → p ≤ 1 → Reached op y (targetOf op y p) r 0 → r .quotient ≤ 2 ^ 25
-floor-small op y p r Y parity reached = quotient-small op y p (r .quotient) Y parity (omega (arith, reached .is))
+floor-small : (op : Op) (y p : ℕ) (r : Partial) → Significand k32 t32 y → p ≤ 1 → Reached op y (targetOf 23 op y p) r 0 → r .quotient ≤ 2 ^ 25
+floor-small op y p r Y parity reached = quotient-small 23 y p (r .quotient) parity (Y .least) (Y .below) op (omega (arith, reached .is))
 
 pub reciprocal-small : (y : ℕ) (r : Partial) → Significand k32 t32 y → Reached Reciprocal y (2 ^ 48) r 0 → r .quotient ≤ 2 ^ 25
 reciprocal-small y r Y reached = floor-small Reciprocal y 0 r Y (omega arith) reached
@@ -58,11 +60,13 @@ scaled-pos x s h =
 
 -- the result of an operand that is scaled
 module _ (e x : ℕ) (s : Scaled) (h : Scaling (magnitudeOf binary32 (patternOf e x)) s) (r : Partial) (n : Neighbour) where
-  pub result-below : (op : Op) → Reached op (s .significand) (targetOf op (s .significand) (parityOf op (s .exponent))) r 0
-      → n ≡ neighbourOf (r .quotient) (not (eqb (r .left) 0)) (scaleOf op (s .exponent)) → BelowResult op e x n
+  pub result-below : (op : Op) → Reached op (s .significand) (targetOf 23 op (s .significand) (parityOf binary32 op (s .exponent))) r 0
+      → n ≡ neighbourOf (r .quotient) (not (eqb (r .left) 0)) (scaleOf binary32 op (s .exponent)) → BelowResult op e x n
   result-below op reached i =
       neighbour-below op _ _ _ _ n (scaled-pos _ s h)
-      (guarded _ (s .significand) (s .exponent) (h .is) (h .significand) (h .small) op r reached) i
+      (guarded binary32 _ (s .significand) (s .exponent) (omega arith) (h .is) (h .significand .least) (h .significand .below) (h .small) op (r .quotient)
+      (not (eqb (r .left) 0)) (floored op _ _ r reached))
+      i
 
 -- the operation by its case
 pub below-case : (op case : Op) (e x : ℕ) (r : Neighbour) → op ≡ case → BelowResult case e x r → BelowResult op e x r

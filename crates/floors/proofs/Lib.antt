@@ -1,3 +1,4 @@
+pub mod Between
 pub mod Reaching
 pub mod Shifts
 pub mod Below

@@ -1,4 +1,4 @@
--- The floors with a guard bit of a significand, and how a raw answer leads to them. Assumes nothing.
+-- How a raw answer at k = 7 leads to the floor of a significand with a guard bit. Assumes nothing.
 use mathlib.Core.Path.{_≡_}
 use mathlib.Core.Bool.{cond}
 use Prim.Native.Nat.{ℕ, suc, _+_, _*_, _-_, _%_, _^_, _≤_, _<_}
@@ -7,24 +7,6 @@ use Rattle.kinds.specs.declared.Op.{Op}
 use Rattle.kinds.specs.declared.Op.the-variants.{Reciprocal, Root, InverseRoot}
 use Rattle.ieee.specs.Rounded.{side}
 use Rattle.floors.specs.declared.Partial.{Partial}
-
--- The floor is the greatest q with y·q ≤ 2^48, q² ≤ y·2^(25 + p), or q²·y ≤ 2^(73 − p): `side` at most the target
-abbrev pub targetOf : Op → ℕ → ℕ → ℕ
-targetOf Reciprocal y p = 2 ^ 48
-targetOf Root y p = y * 2 ^ (25 + p)
-targetOf InverseRoot y p = 2 ^ (73 - p)
-
--- a raw answer g counts the result in finer steps: so many to one of the floor's
-abbrev pub strideOf : Op → ℕ
-strideOf Reciprocal = 8
-strideOf Root = 16
-strideOf InverseRoot = 8
-
--- so that the target is taken so often where g stands for q
-abbrev pub spreadOf : Op → ℕ
-spreadOf Reciprocal = 8
-spreadOf Root = 256
-spreadOf InverseRoot = 64
 
 -- how many steps lead from the start to the floor at most
 abbrev pub stepsOf : Op → ℕ

@@ -6,7 +6,8 @@ ghost use Prim.Native.Nat.{_^_, _≤_, _<_};
 ghost use Rattle.kinds.specs.declared.Op.the-variants.{Reciprocal, Root, InverseRoot};
 ghost use Rattle.significand.specs.Width.{k32, t32, Significand};
 ghost use Rattle.significand.specs.Distance.{Near, boundOf};
-ghost use Rattle.floors.specs.Floor.{Reached, Stepped, targetOf, remainderOf};
+ghost use Rattle.ieee.specs.Floor.{targetOf};
+ghost use Rattle.floors.specs.Floor.{Reached, Stepped, remainderOf};
 
 // A number at or below the floor, and what its product leaves of the target.
 pub struct Partial {
@@ -31,7 +32,7 @@ fn step(x: Partial, amount: u64) -> Partial
 // 2^48 / y: three steps are enough.
 pub fn reciprocal(y: u64, g: u64) -> Partial
     requires { ⌜ Significand k32 t32 y × (g < 2 ^ 32) × Near Reciprocal k32 t32 y 0 (boundOf Reciprocal) g ⌝ }
-    ensures { λ r. ⌜ Reached Reciprocal y (targetOf Reciprocal y 0) r 0 ⌝ }
+    ensures { λ r. ⌜ Reached Reciprocal y (targetOf 23 Reciprocal y 0) r 0 ⌝ }
 {
     let q = (g - 12) / 8;
     let first = Partial {
@@ -44,7 +45,7 @@ pub fn reciprocal(y: u64, g: u64) -> Partial
 // The root of y × 2^(25 + p): one step is enough.
 pub fn root(y: u64, p: u64, g: u64) -> Partial
     requires { ⌜ Significand k32 t32 y × (p ≤ 1) × (g < 2 ^ 32) × Near Root k32 t32 y p (boundOf Root) g ⌝ }
-    ensures { λ r. ⌜ Reached Root y (targetOf Root y p) r 0 ⌝ }
+    ensures { λ r. ⌜ Reached Root y (targetOf 23 Root y p) r 0 ⌝ }
 {
     let q = (g - 7) / 16;
     let first = Partial {
@@ -57,7 +58,7 @@ pub fn root(y: u64, p: u64, g: u64) -> Partial
 // The root of 2^(73 - p) / y: two steps are enough.
 pub fn inverse_root(y: u64, p: u64, g: u64) -> Partial
     requires { ⌜ Significand k32 t32 y × (p ≤ 1) × (g < 2 ^ 32) × Near InverseRoot k32 t32 y p (boundOf InverseRoot) g ⌝ }
-    ensures { λ r. ⌜ Reached InverseRoot y (targetOf InverseRoot y p) r 0 ⌝ }
+    ensures { λ r. ⌜ Reached InverseRoot y (targetOf 23 InverseRoot y p) r 0 ⌝ }
 {
     let q = (g - 7) / 8;
     let first = Partial {
