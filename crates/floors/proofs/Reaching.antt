@@ -58,7 +58,7 @@ amountOf Reciprocal y q = y
 amountOf Root y q = 2 * q + 1
 amountOf InverseRoot y q = (2 * q + 1) * y
 
-amount-is : (op : Op) (y q : ℕ) → side op y q + amountOf op y q ≡ side op y (q + 1)
+pub amount-is : (op : Op) (y q : ℕ) → side op y q + amountOf op y q ≡ side op y (q + 1)
 amount-is Reciprocal y q = omega arith
 amount-is Root y q = omega arith
 amount-is InverseRoot y q = omega arith

@@ -1,7 +1,8 @@
-// Numbers of two words: the product of two numbers of 64 bits, whole and its lower word.
+// Numbers of two words: the product of two numbers of 64 bits, whole and its lower word, and the lower words of a product of three.
 ghost use mathlib.Core.Path.{_≡_};
 ghost use Prim.Native.Nat.{_*_, _%_, _≤_, _<_, _^_};
-ghost use Rattle.wide.specs.Wide.{wideOf};
+ghost use Rattle.wide.specs.Wide.{wideOf, lowerOf};
+use std::num::wrapping_add_u64;
 
 // A number of 128 bits: high × 2^64 + low.
 pub struct Wide {
@@ -39,4 +40,17 @@ pub fn low_product(a: u64, b: u64) -> u64
     ensures { λ r. ⌜ r ≡ a * b % 2 ^ 64 ⌝ }
 {
     product(a, b).low
+}
+
+// The lower two words of a² × b.
+pub fn low_square_product(a: u64, b: u64) -> Wide
+    ensures { λ r. ⌜ r ≡ lowerOf (a * a * b) ⌝ }
+{
+    let square = product(a, a);
+    let low = product(square.low, b);
+    let high = low_product(square.high, b);
+    Wide {
+        high: wrapping_add_u64(low.high, high),
+        low: low.low,
+    }
 }

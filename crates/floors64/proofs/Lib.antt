@@ -1,0 +1,2 @@
+pub mod Tried
+pub mod Words
