@@ -17,9 +17,9 @@ use Rattle.significand.proofs.Accepted.{raw-near}
 use Rattle.ieee.specs.Format.{binary32, magnitudeOf}
 use Rattle.pattern.specs.Parts.{patternOf}
 use Rattle.pattern.specs.Operand.{Scaling}
-use Rattle.ieee.specs.Floor.{targetOf}
+use Rattle.ieee.specs.Floor.{targetOf, scaleOf, parityOf}
 use Rattle.ieee.proofs.Targets.{quotient-small}
-use Rattle.ieee.proofs.Scales.{scaleOf, parityOf, guarded}
+use Rattle.ieee.proofs.Scales.{guarded}
 use Rattle.floors.specs.Floor.{Reached}
 use Rattle.floors.specs.Neighbour.{neighbourOf}
 use Rattle.binary32.specs.Below.{BelowResult}

@@ -17,21 +17,8 @@ use Rattle.numbers.proofs.Exponents.{power-of}
 use Rattle.ieee.specs.Format.{Format, unitOf}
 use Rattle.ieee.specs.Rounded.{side, limit, twice}
 use Rattle.ieee.specs.Guarded.{Guarded}
-use Rattle.ieee.specs.Floor.{targetOf, Floored}
+use Rattle.ieee.specs.Floor.{targetOf, Floored, scaleOf, parityOf}
 use Rattle.ieee.proofs.Targets.{quotient-small, quotient-large, quotient-top}
-
--- The operand is X = y / 2^m × 2^(j − u), y its significand, and a floor q at the scale k stands for q × 2^(k − 3) units of 2^-u.
--- 1 / X is 2^(2m + 2) / y × 2^(2u − m − 2 − j) units; √X is √(y × 2^(m + 2 + p)) × 2^((j + u − p) / 2 − m − 1) units;
--- 1 / √X is √(2^(3m + 4 − p) / y) × 2^((3u − j + p) / 2 − m − 2) units. The parity p makes the exponent whole, and k is 3 more
-abbrev pub scaleOf : Format → Op → ℕ → ℕ
-scaleOf f Reciprocal j = 2 * unitOf f + 1 - f .fractionBits - j
-scaleOf f Root j = (j + (unitOf f + 4 - 2 * f .fractionBits)) / 2
-scaleOf f InverseRoot j = (3 * unitOf f + 2 - 2 * f .fractionBits - j + 1) / 2
-
-abbrev pub parityOf : Format → Op → ℕ → ℕ
-parityOf f Reciprocal j = 0
-parityOf f Root j = (j + (unitOf f + 4 - 2 * f .fractionBits)) % 2
-parityOf f InverseRoot j = (3 * unitOf f + 2 - 2 * f .fractionBits - j) % 2
 
 parity-most : (f : Format) (op : Op) (j : ℕ) → parityOf f op j ≤ 1
 parity-most f Reciprocal j = omega arith

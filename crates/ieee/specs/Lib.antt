@@ -6,3 +6,4 @@ pub mod Agree
 pub mod Bracket
 pub mod Guarded
 pub mod Floor
+pub mod Normalized
