@@ -104,7 +104,7 @@ powers-three i j k m n e =
     ap (λ (p : ℕ). 2 ^ i * p) (power-sum j k (j + k) refl) ∙ power-sum i (j + k) (m + n) e ∙ sym (power-sum m n (m + n) refl)
 
 -- The scales: x × 2^23 is y × 2^j
-module _ (x y j : ℕ) (is : x * 2 ^ 23 ≡ y * 2 ^ j) (Y : Significand k32 t32 y) (small : j ≤ 254 + 22) where
+module _ (x y j : ℕ) (is : x * 2 ^ 23 ≡ y * 2 ^ j) (Y : Significand k32 t32 y) (small : j ≤ 276) where
   -- the reciprocal's: the two lowest are those of subnormal results
   reciprocal-guarded : (r : Partial) → Reached Reciprocal y (targetOf Reciprocal y (parityOf Reciprocal j)) r 0
       → Guarded binary32 Reciprocal x (r .quotient) (not (eqb (r .left) 0)) (scaleOf Reciprocal j)

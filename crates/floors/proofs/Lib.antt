@@ -1,3 +1,1 @@
 pub mod Reaching
-pub mod Shifts
-pub mod Below
