@@ -1,37 +1,38 @@
 -- The answer to a pattern: a special operand's, or the rounded result. Assumes nothing.
-use mathlib.Core.Path.{_≡_, refl, sym, ap, _∙_}
+use mathlib.Core.Path.{_≡_, sym, _∙_}
 use mathlib.Core.Bool.{Bool, true, false}
-use Prim.Native.Nat.{ℕ, _/_, _%_, _^_}
-use native.Mathlib.Omega.{arith}
+use Prim.Native.Nat.{ℕ}
 use Rattle.kinds.specs.declared.Op.{Op}
 use Rattle.kinds.specs.declared.Mode.{Mode}
 use Rattle.ieee.specs.Format.{binary32}
 use Rattle.ieee.specs.Answer.{answerTo, answerOf}
 use Rattle.ieee.proofs.Finite.{answer-parts}
-use Rattle.rounding.proofs.Below.{rounded-finite}
-use Rattle.special.proofs.Parted.{special-parted, ordinary-parted}
-use Rattle.pattern.specs.Parts.{patternOf, PartsOf}
-use Rattle.pattern.specs.Answer.{roundedAnswer}
-use Rattle.rounding.specs.Rounded.{roundedFrom}
-use Rattle.binary32.specs.Below.{BelowResult}
-use Rattle.special.specs.Special.{isSpecial, specialTo}
+use Rattle.pattern.specs.Parts.{PartsOf}
+use Rattle.pattern.specs.Answer.{Answered}
+use Rattle.pattern.specs.declared.Width.the-variants.{Binary32}
 use Rattle.pattern.specs.declared.parts.Parts.{Parts}
-use Rattle.floors.specs.declared.neighbour.Neighbour.{Neighbour}
 use Rattle.pattern.specs.declared.answer.Rounded.{Rounded}
+use Rattle.special.specs.Special.{isSpecial, specialTo}
+use Rattle.special.proofs.Parted.{special-parted, ordinary-parted}
+use Rattle.rounding.specs.Rounded.{roundedFrom}
+use Rattle.rounding.specs.declared.neighbour.Neighbour.{Neighbour}
+use Rattle.rounding.proofs.Below.{rounded-finite}
+use Rattle.binary32.specs.Below.{BelowResult}
 
--- the fields together are the pattern
-answer-fields : (op : Op) (mode : Mode) (b : ℕ) (x : Parts) → PartsOf b x
-    → answerOf binary32 op mode b ≡ answerTo binary32 op mode (x .sign) (patternOf (x .exponent) (x .fraction))
-answer-fields op mode b x p =
-    rw (p .is) (answer-parts binary32 op mode b (b / 2 ^ 31) (patternOf (b / 2 ^ 23 % 2 ^ 8) (b % 2 ^ 23)) refl (omega arith))
+-- by the parts of the pattern
+module _ (op : Op) (mode : Mode) (b : ℕ) (x : Parts) (s : Bool) (r : Rounded) (p : PartsOf binary32 b x) (es : s ≡ isSpecial binary32 op (x .sign) (x .unsigned)) where
+  by-parts : answerOf binary32 op mode b ≡ answerTo binary32 op mode (x .sign) (x .unsigned)
+  by-parts = answer-parts binary32 op mode b (x .sign) (x .unsigned) (sym (p .sign)) (sym (p .unsigned))
 
-pub answer-special : (op : Op) (mode : Mode) (b : ℕ) (x : Parts) (s : Bool) (r : Rounded) → PartsOf b x → s ≡ isSpecial op x → s ≡ true
-    → r ≡ roundedAnswer (specialTo op x) → r ≡ roundedAnswer (answerOf binary32 op mode b)
-answer-special op mode b x s r p es et er =
-    er ∙ ap roundedAnswer (sym (answer-fields op mode b x p ∙ special-parted op mode x (sym es ∙ et)))
+  pub answer-special : s ≡ true → Answered binary32 (specialTo binary32 op (x .sign) (x .unsigned)) r → Answered binary32 (answerOf binary32 op mode b) r
+  answer-special et a = rw (by-parts, special-parted binary32 op mode (x .sign) (x .unsigned) (sym es ∙ et)) a
 
-pub answer-finite : (op : Op) (mode : Mode) (b : ℕ) (x : Parts) (s : Bool) (n : Neighbour) (r : Rounded) → PartsOf b x → s ≡ isSpecial op x → s ≡ false
-    → BelowResult op (x .exponent) (x .fraction) n → r ≡ roundedFrom mode (x .sign) n → r ≡ roundedAnswer (answerOf binary32 op mode b)
-answer-finite op mode b x s n r p es ef below er =
-    er ∙ rounded-finite op mode (x .sign) (patternOf (x .exponent) (x .fraction)) n below
-    ∙ ap roundedAnswer (sym (answer-fields op mode b x p ∙ ordinary-parted op mode x (sym es ∙ ef)))
+  pub answer-finite : (n : Neighbour) → s ≡ false → BelowResult op (x .unsigned) n → Answered binary32 (roundedFrom binary32 mode (x .sign) n) r
+      → Answered binary32 (answerOf binary32 op mode b) r
+  answer-finite n ef below a =
+      rw (
+        by-parts,
+        ordinary-parted binary32 op mode (x .sign) (x .unsigned) (sym es ∙ ef),
+        ← rounded-finite Binary32 op mode (x .sign) (x .unsigned) n below,
+      )
+      a

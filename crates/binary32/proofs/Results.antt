@@ -15,19 +15,19 @@ use Rattle.significand.specs.Steps.{rawOf}
 use Rattle.significand.specs.Distance.{Near, boundOf}
 use Rattle.significand.proofs.Accepted.{raw-near}
 use Rattle.ieee.specs.Format.{binary32, magnitudeOf}
-use Rattle.pattern.specs.Parts.{patternOf}
 use Rattle.pattern.specs.Operand.{Scaling}
 use Rattle.ieee.specs.Floor.{targetOf, scaleOf, parityOf}
 use Rattle.ieee.proofs.Targets.{quotient-small}
 use Rattle.ieee.proofs.Scales.{guarded}
 use Rattle.floors.specs.Floor.{Reached}
-use Rattle.floors.specs.Neighbour.{neighbourOf}
+use Rattle.rounding.specs.Neighbour.{neighbourOf}
 use Rattle.binary32.specs.Below.{BelowResult}
+use Rattle.pattern.specs.declared.Width.the-variants.{Binary32}
 use Rattle.pattern.specs.declared.operand.Scaled.{Scaled}
 use Rattle.floors.specs.declared.Partial.{Partial}
-use Rattle.floors.specs.declared.neighbour.Neighbour.{Neighbour}
+use Rattle.rounding.specs.declared.neighbour.Neighbour.{Neighbour}
 use Rattle.floors.proofs.Reaching.{floored}
-use Rattle.floors.proofs.Below.{neighbour-below}
+use Rattle.rounding.proofs.Below.{neighbour-below}
 
 -- the raw answers are near
 pub reciprocal-near : (y g : ℕ) → Significand k32 t32 y → g ≡ rawOf k32 t32 Reciprocal y 0 → Near Reciprocal k32 t32 y 0 (boundOf Reciprocal) g
@@ -53,21 +53,21 @@ pub inverse-root-small : (y n : ℕ) (r : Partial) → Significand k32 t32 y →
 inverse-root-small y n r Y reached = floor-small InverseRoot y (n % 2) r Y (omega arith) reached
 
 -- a scaled magnitude is not zero
-scaled-pos : (x : ℕ) (s : Scaled) → Scaling x s → 0 < x
+scaled-pos : (x : ℕ) (s : Scaled) → Scaling Binary32 x s → 0 < x
 scaled-pos x s h =
     by-cases (decLt 0 x) (λ l. l)
     (λ l. absurd (omega (arith, h .is, mul-pos {m = s .significand} {n = 2 ^ s .exponent} (omega (arith, h .significand)) (pow-pos (s .exponent)))))
 
 -- the result of an operand that is scaled
-module _ (e x : ℕ) (s : Scaled) (h : Scaling (magnitudeOf binary32 (patternOf e x)) s) (r : Partial) (n : Neighbour) where
+module _ (t : ℕ) (s : Scaled) (h : Scaling Binary32 (magnitudeOf binary32 t) s) (r : Partial) (n : Neighbour) where
   pub result-below : (op : Op) → Reached op (s .significand) (targetOf 23 op (s .significand) (parityOf binary32 op (s .exponent))) r 0
-      → n ≡ neighbourOf (r .quotient) (not (eqb (r .left) 0)) (scaleOf binary32 op (s .exponent)) → BelowResult op e x n
+      → n ≡ neighbourOf binary32 (r .quotient) (not (eqb (r .left) 0)) (scaleOf binary32 op (s .exponent)) → BelowResult op t n
   result-below op reached i =
-      neighbour-below op _ _ _ _ n (scaled-pos _ s h)
-      (guarded binary32 _ (s .significand) (s .exponent) (omega arith) (h .is) (h .significand .least) (h .significand .below) (h .small) op (r .quotient)
-      (not (eqb (r .left) 0)) (floored op _ _ r reached))
+      neighbour-below Binary32 op _ _ _ _ n (scaled-pos _ s h)
+      (guarded binary32 _ (s .significand) (s .exponent) (omega arith) (h .is) (h .significand .least) (h .significand .below) (omega (arith, h .small)) op
+      (r .quotient) (not (eqb (r .left) 0)) (floored op _ _ r reached))
       i
 
 -- the operation by its case
-pub below-case : (op case : Op) (e x : ℕ) (r : Neighbour) → op ≡ case → BelowResult case e x r → BelowResult op e x r
-below-case op case e x r o b = rw o b
+pub below-case : (op case : Op) (t : ℕ) (r : Neighbour) → op ≡ case → BelowResult case t r → BelowResult op t r
+below-case op case t r o b = rw o b

@@ -2,19 +2,27 @@
 mod below;
 
 ghost use mathlib.Core.Path.{_≡_};
+ghost use Prim.Native.Nat.{_^_, _<_};
 ghost use Rattle.ieee.specs.Format.{binary32};
 ghost use Rattle.ieee.specs.Answer.{answerOf};
 ghost use Rattle.ieee.specs.Call.{binary32Refusal};
-ghost use Rattle.pattern.specs.Answer.{roundedAnswer};
+ghost use Rattle.pattern.specs.Answer.{Answered};
+ghost use Rattle.binary32.specs.Answer.{roundedAnswer};
 use below::below;
 use kinds::Mode;
 use kinds::Op;
 use kinds::ask;
-pub use pattern::answer::Rounded;
-use pattern::parts::fields;
+use pattern::Width;
+use pattern::parts::split;
 use rounding::round;
 use special::is_special;
 use special::special;
+
+// A pattern and the flags that its operation raises.
+pub struct Rounded {
+    pub bits: u32,
+    pub flags: u8,
+}
 
 // The first of questions 1 and 2 that is answered "no", or 0.
 pub fn refusal(operation: u8, rounding: u8) -> u8
@@ -29,9 +37,20 @@ pub fn refusal(operation: u8, rounding: u8) -> u8
 pub fn answer(op: Op, mode: Mode, bits: u32) -> Rounded
     ensures { λ r. ⌜ r ≡ roundedAnswer (answerOf binary32 op mode bits) ⌝ }
 {
-    let x = fields(bits);
-    if is_special(op, x) {
-        return special(op, x);
+    let r = answer_in_64_bits(op, mode, bits as u64);
+    Rounded {
+        bits: r.bits as u32,
+        flags: r.flags,
     }
-    round(mode, x.sign, below(op, x.exponent, x.fraction))
+}
+
+fn answer_in_64_bits(op: Op, mode: Mode, bits: u64) -> pattern::answer::Rounded
+    requires { ⌜ bits < 2 ^ 32 ⌝ }
+    ensures { λ r. ⌜ Answered binary32 (answerOf binary32 op mode bits) r ⌝ }
+{
+    let x = split(Width::Binary32, bits);
+    if is_special(Width::Binary32, op, x) {
+        return special(Width::Binary32, op, x);
+    }
+    round(Width::Binary32, mode, x.sign, below(op, x.unsigned))
 }

@@ -1,4 +1,2 @@
 pub mod Between
 pub mod Reaching
-pub mod Shifts
-pub mod Below

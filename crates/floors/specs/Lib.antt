@@ -1,2 +1,1 @@
 pub mod Floor
-pub mod Neighbour

@@ -1,6 +1,4 @@
 // The floor of an exact result with one guard bit: from a raw answer, which starts at or below the floor, step by step up to it. A remainder decides each step.
-pub mod neighbour;
-
 ghost use mathlib.Core.Path.{_≡_};
 ghost use Prim.Native.Nat.{_^_, _≤_, _<_};
 ghost use Rattle.kinds.specs.declared.Op.the-variants.{Reciprocal, Root, InverseRoot};

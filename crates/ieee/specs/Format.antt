@@ -9,6 +9,10 @@ pub record Format : Type 0 where
 abbrev pub binary32 : Format
 binary32 = record { exponentBits = 8; fractionBits = 23 }
 
+-- the wider format of document 02
+abbrev pub binary64 : Format
+binary64 = record { exponentBits = 11; fractionBits = 52 }
+
 -- the exponent's bias [127]
 abbrev pub biasOf : Format → ℕ
 biasOf f = 2 ^ (f .exponentBits - 1) - 1

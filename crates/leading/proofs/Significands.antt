@@ -11,7 +11,7 @@ use Rattle.significand.specs.Width.{k32, t32, Significand}
 use Rattle.leading.specs.Leading.{LeadingOf}
 
 -- the place of the highest bit, counted from 0
-abbrev exponentOf : ℕ → ℕ
+abbrev pub exponentOf : ℕ → ℕ
 exponentOf n = 63 - leadingZeros 64 n
 
 -- the 24 highest bits
@@ -28,13 +28,14 @@ module _ (n : ℕ) (pos : 0 < n) (small : n < 2 ^ 64) where
   pub zeros-below : leadingZeros 64 n < 64
   zeros-below = omega (arith, zeros-most)
 
-  top-is : 2 ^ exponentOf n ≤ n
+  -- the highest bit is at that place
+  pub top-is : 2 ^ exponentOf n ≤ n
   top-is =
       let top = leading-top 64 n pos small in
       let e : top .0 ≡ exponentOf n = omega (arith, top .1) in
       subst (λ (j : ℕ). 2 ^ j ≤ n) e (top .2)
 
-  top-next : n < 2 * 2 ^ exponentOf n
+  pub top-next : n < 2 * 2 ^ exponentOf n
   top-next =
       let top = leading-top 64 n pos small in
       let e : top .0 ≡ exponentOf n = omega (arith, top .1) in

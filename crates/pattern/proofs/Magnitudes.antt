@@ -1,59 +1,109 @@
--- A magnitude as a significand and a power of two: the shifts of a subnormal operand, and a normal one. Assumes nothing.
-use mathlib.Core.Path.{_≡_, refl, ap, _∙_}
-use Prim.Native.Nat.{ℕ, zero, suc, _+_, _*_, _-_, _^_, _≤_, _<_}
-use native.Mathlib.Nat.{pow-succ'}
+-- A magnitude as a significand and a power of two. Assumes nothing.
+use mathlib.Core.Path.{_≡_, ap}
+use Prim.Native.Nat.{ℕ, zero, suc, _+_, _*_, _-_, _/_, _%_, _^_, _≤_, _<_}
+use native.Mathlib.Nat.{pow-suc, mod-eq-of-lt, mod-lt, div-le-self, mul-le-mul-right, mul-lt-mul-of-pos-right, div-lt-iff-lt-mul, le-div-iff-mul-le}
 use native.Mathlib.Omega.{arith}
-use lib.Pow.{pow-add}
-use Rattle.ieee.specs.Format.{binary32, magnitudeOf}
-use Rattle.ieee.proofs.Neighbours.{magnitude-fields}
-use Rattle.pattern.specs.Parts.{patternOf}
+use lib.Count.{leadingZeros}
+use lib.Dec.{lit<}
+use lib.Pow.{pow-pos}
+use mir.Syntax.{w64}
+use mir.Val.{Fits}
+use Rattle.numbers.proofs.Powers.{power-below, power-sum}
+use Rattle.significand.specs.Width.{Significand}
+use Rattle.leading.proofs.Significands.{exponentOf, zeros-most, top-is, top-next}
+use Rattle.ieee.specs.Format.{scaled, magnitudeOf}
+use Rattle.ieee.proofs.Neighbours.{magnitude-small}
+use Rattle.pattern.specs.Width.{formatOf, kOf, tOf, ConstantsOf}
 use Rattle.pattern.specs.Operand.{Ordinary, Scaling}
-use Rattle.pattern.specs.declared.operand.Scaled.{Scaled}
+use Rattle.pattern.specs.declared.Width.{Width}
+use Rattle.pattern.specs.declared.Width.the-variants.{Binary32, Binary64}
+use Rattle.pattern.specs.declared.Constants.{Constants}
 
--- the fraction x of a subnormal operand, shifted up to y while the exponent has come down from 23 to j
-pub record Shifted (x y j : ℕ) : Type 0 where
-  pub is : x * 2 ^ 23 ≡ y * 2 ^ j
-  pub low : 0 < y
-  pub high : y < 2 ^ 24
-  pub small : j ≤ 23
+-- a significand has one bit more than a fraction
+significand-is : (w : Width) (y : ℕ) → 2 ^ formatOf w .fractionBits ≤ y → y < 2 * 2 ^ formatOf w .fractionBits → Significand (kOf w) (tOf w) y
+significand-is Binary32 y h k = record { least = h; below = k }
+significand-is Binary64 y h k = record { least = h; below = k }
 
-pub shifted-none : (x : ℕ) → 0 < x → x < 2 ^ 23 → Shifted x x 23
-shifted-none x p h = record { is = refl; low = p; high = omega arith; small = omega arith }
+-- there are exponents enough
+exponents : (w : Width) → 2 < 2 ^ formatOf w .exponentBits
+exponents Binary32 = lit< tt
+exponents Binary64 = lit< tt
 
--- below 24 bits there is a shift left
-pub shifts-left : (x y j : ℕ) → 0 < x → Shifted x y j → y < 2 ^ 23 → 0 < j
-shifts-left x y zero p s h = omega (arith, s .is)
-shifts-left x y (suc j) p s h = omega arith
+-- a number t below 2^m whose highest bit is 2^j, with this bit brought to the place of 2^m
+module _ (m t j : ℕ) (low : 2 ^ j ≤ t) (high : t < 2 * 2 ^ j) (small : t < 2 ^ m) where
+  below : j < m
+  below = power-below j m (omega arith)
 
-pub shifts-down : (x y j : ℕ) → 0 < x → Shifted x y j → y < 2 ^ 23 → j - 1 < j
-shifts-down x y j p s h = omega (arith, shifts-left x y j p s h)
+  powers : 2 ^ (m - j) * 2 ^ j ≡ 2 ^ m
+  powers = power-sum (m - j) j m (omega (arith, below))
 
-pub shifted-more : (x y j : ℕ) → 0 < x → Shifted x y j → y < 2 ^ 23 → Shifted x (2 * y) (j - 1)
-shifted-more x y zero p s h = absurd (omega (arith, shifts-left x y zero p s h))
-shifted-more x y (suc j) p s h =
-    let e : suc j - 1 ≡ j = omega arith in
-    record {
-      is = s .is ∙ rw (e, pow-succ' 2 j) (omega arith);
-      low = omega (arith, s .low);
-      high = omega arith;
-      small = omega (arith, s .small);
-    }
+  lifted-is : t * 2 ^ m ≡ t * 2 ^ (m - j) * 2 ^ j
+  lifted-is = omega (arith, ap (λ (n : ℕ). t * n) powers)
 
-pub shifted-all : (x y j : ℕ) → Shifted x y j → 2 ^ 23 ≤ y → Scaling x (record { significand = y; exponent = j })
-shifted-all x y j s h = record { is = s .is; significand = record { least = h; below = s .high }; small = omega (arith, s .small) }
+  lifted-least : 2 ^ m ≤ t * 2 ^ (m - j)
+  lifted-least = omega (arith, powers, mul-le-mul-right (2 ^ (m - j)) low)
 
--- the operand is subnormal where its exponent is 0, and its fraction is its magnitude
-pub subnormal-scaled : (e x : ℕ) (r : Scaled) → e ≡ 0 → Ordinary e x → Scaling x r → Scaling (magnitudeOf binary32 (patternOf e x)) r
-subnormal-scaled e x r z h s = rw (z, magnitude-fields binary32 0 x (h .fraction)) s
+  lifted-most : t * 2 ^ (m - j) < 2 * 2 ^ m
+  lifted-most = omega (arith, powers, mul-lt-mul-of-pos-right high (pow-pos (m - j)))
 
--- otherwise the significand has a leading one
-pub normal-scaled : (e x : ℕ) → (e ≡ 0 → ⊥) → Ordinary e x
-    → Scaling (magnitudeOf binary32 (patternOf e x)) (record { significand = 2 ^ 23 + x; exponent = e + 22 })
-normal-scaled zero x z h = absurd (z refl)
-normal-scaled (suc e) x z h =
-    let p : 2 ^ (suc e + 22) ≡ 2 ^ e * 2 ^ 23 = ap (λ (n : ℕ). 2 ^ n) (omega arith) ∙ pow-add 2 e 23 in
-    record {
-      is = rw (magnitude-fields binary32 (suc e) x (h .fraction), p) (omega arith);
-      significand = record { least = omega arith; below = omega (arith, h .fraction) };
-      small = omega (arith, h .finite);
-    }
+-- the magnitude of a pattern with the exponent e, not 0, and the fraction x
+normal-is : (m e x : ℕ) → 1 ≤ e → scaled m e x * 2 ^ m ≡ (2 ^ m + x) * 2 ^ (e + m - 1)
+normal-is m zero x p = absurd (omega arith)
+normal-is m (suc e) x p = omega (arith, ap (λ (n : ℕ). (2 ^ m + x) * n) (power-sum e m (suc e + m - 1) (omega arith)))
+
+module _ (w : Width) (t : ℕ) (c : Constants) (k : ConstantsOf (formatOf w) c) (o : Ordinary (formatOf w) t) where
+  -- the operand fits a word, and so does what is worked from it
+  whole : t < 2 ^ 64
+  whole = omega (arith, k, o .finite)
+
+  pub zeros-few : leadingZeros 64 t ≤ 63
+  zeros-few = zeros-most t (o .some) whole
+
+  pub zeros-cast : Fits w64 (leadingZeros 64 t)
+  zeros-cast = omega (arith, zeros-few)
+
+  pub significand-fits : Fits w64 (c .normal + t % c .normal)
+  significand-fits = omega (arith, mod-lt t {m = c .normal} (omega arith), k)
+
+  pub exponent-fits : Fits w64 (t / c .normal + c .fraction)
+  exponent-fits = omega (arith, div-le-self t (c .normal), k, o .finite)
+
+  module _ (subnormal : t < c .normal) where
+    low : 2 ^ exponentOf t ≤ t
+    low = top-is t (o .some) whole
+
+    high : t < 2 * 2 ^ exponentOf t
+    high = top-next t (o .some) whole
+
+    small : t < 2 ^ formatOf w .fractionBits
+    small = omega (arith, k .normal-is)
+
+    pub exponent-few : exponentOf t ≤ c .fraction
+    exponent-few = omega (arith, k .fraction-is, below (formatOf w .fractionBits) t (exponentOf t) low high small)
+
+    pub subnormal-scaled : Scaling w (magnitudeOf (formatOf w) t) (record { significand = t * 2 ^ (c .fraction - exponentOf t) % 2 ^ 64; exponent = exponentOf t })
+    subnormal-scaled =
+        let m = formatOf w .fractionBits in
+        let j = exponentOf t in
+        let most = lifted-most m t j low high small in
+        let fits : t * 2 ^ (m - j) % 2 ^ 64 ≡ t * 2 ^ (m - j) = mod-eq-of-lt (omega (arith, most, k)) in
+        rw (k .fraction-is, fits, magnitude-small (formatOf w) t (omega (arith, small, pow-suc 2 m)))
+        (record {
+          is = lifted-is m t j low high small;
+          significand = significand-is w (t * 2 ^ (m - j)) (lifted-least m t j low high small) most;
+          small = omega (arith, below m t j low high small, exponents w);
+        })
+
+  pub normal-scaled : c .normal ≤ t
+      → Scaling w (magnitudeOf (formatOf w) t) (record { significand = c .normal + t % c .normal; exponent = t / c .normal + c .fraction - 1 })
+  unfolding magnitudeOf
+  normal-scaled l =
+      let m = formatOf w .fractionBits in
+      let x : t % 2 ^ m < 2 ^ m = mod-lt t (pow-pos m) in
+      let e : 1 ≤ t / 2 ^ m = le-div-iff-mul-le (pow-pos m) .1 (omega (arith, k .normal-is)) in
+      rw (k .normal-is, k .fraction-is)
+      (record {
+        is = normal-is m (t / 2 ^ m) (t % 2 ^ m) e;
+        significand = significand-is w (2 ^ m + t % 2 ^ m) (omega arith) (omega arith);
+        small = omega (arith, div-lt-iff-lt-mul (pow-pos m) .1 (o .finite));
+      })

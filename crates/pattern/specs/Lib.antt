@@ -1,3 +1,4 @@
+pub mod Width
 pub mod Parts
 pub mod Operand
 pub mod Answer

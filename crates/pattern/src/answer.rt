@@ -1,13 +1,15 @@
 // An answer: a pattern with its sign, and the flags that are raised.
 ghost use mathlib.Core.Path.{_≡_};
 ghost use mathlib.Core.Bool.{cond};
-ghost use Prim.Native.Nat.{_^_, _≤_, _<_};
-ghost use Rattle.ieee.specs.Format.{binary32};
+ghost use Prim.Native.Nat.{_*_, _≤_, _<_};
+ghost use Rattle.ieee.specs.Format.{signBit};
 ghost use Rattle.ieee.specs.Answer.{withSignBit};
+ghost use Rattle.pattern.specs.Width.{formatOf};
+use crate::Width;
 
 // A pattern and the flags that its operation raises.
 pub struct Rounded {
-    pub bits: u32,
+    pub bits: u64,
     pub flags: u8,
 }
 
@@ -17,9 +19,9 @@ pub fn flag_if(on: bool, flag: u8) -> u8
     if on { flag } else { 0 }
 }
 
-pub fn with_sign(sign: u32, t: u32) -> u32
-    requires { ⌜ (sign < 2) × (t < 2 ^ 31) ⌝ }
-    ensures { λ r. ⌜ r ≡ withSignBit binary32 sign t ⌝ }
+pub fn with_sign(w: Width, sign: u64, t: u64) -> u64
+    requires { ⌜ (sign < 2) × (t < signBit (formatOf w)) ⌝ }
+    ensures { λ r. ⌜ (r ≡ withSignBit (formatOf w) sign t) × (r < 2 * signBit (formatOf w)) ⌝ }
 {
-    (sign << 31) | t
+    sign * w.constants().sign + t
 }

@@ -1,15 +1,45 @@
-// Binary32 patterns: their fields, an operand's significand and scale, and how an answer is put together.
+// Patterns of both formats, in 64 bits: their parts, an operand's significand and scale, and how an answer is put together.
 pub mod answer;
 pub mod operand;
 pub mod parts;
 
-// Patterns that have a name, without sign.
-pub struct Pattern;
+ghost use Rattle.pattern.specs.Width.{formatOf, ConstantsOf};
 
-impl Pattern {
-    pub const LEAST_NORMAL: u32 = 0x80_0000;
+// The format that a pattern has.
+pub enum Width {
+    Binary32,
+    Binary64,
+}
 
-    pub const INFINITY: u32 = 0x7F80_0000;
+// The numbers of a format: how many bits a fraction has, the sign's place, the patterns of the least normal number and of infinity, and
+// the top bit of a fraction, which is 1 in a quiet NaN and 0 in a signalling one.
+pub struct Constants {
+    pub fraction: u64,
+    pub sign: u64,
+    pub normal: u64,
+    pub infinity: u64,
+    pub quiet: u64,
+}
 
-    pub const QUIET_NAN: u32 = 0x7FC0_0000;
+impl Width {
+    pub fn constants(self) -> Constants
+        ensures { λ r. ⌜ ConstantsOf (formatOf self) r ⌝ }
+    {
+        match self {
+            Width::Binary32 => Constants {
+                fraction: 23,
+                sign: 0x8000_0000,
+                normal: 0x80_0000,
+                infinity: 0x7F80_0000,
+                quiet: 0x40_0000,
+            },
+            Width::Binary64 => Constants {
+                fraction: 52,
+                sign: 0x8000_0000_0000_0000,
+                normal: 0x10_0000_0000_0000,
+                infinity: 0x7FF0_0000_0000_0000,
+                quiet: 0x8_0000_0000_0000,
+            },
+        }
+    }
 }

@@ -1,44 +1,32 @@
 // A finite operand as a significand and a power of two.
-ghost use Prim.Native.Nat.{_^_, _<_};
-ghost use Rattle.ieee.specs.Format.{binary32, magnitudeOf};
-ghost use Rattle.pattern.specs.Parts.{patternOf};
+ghost use Rattle.ieee.specs.Format.{magnitudeOf};
+ghost use Rattle.pattern.specs.Width.{formatOf};
 ghost use Rattle.pattern.specs.Operand.{Ordinary, Scaling};
+use crate::Width;
 
-// A magnitude, counted in units of 2^-149: times 2^23 it is significand × 2^exponent, and the significand has 24 bits.
+// A magnitude, counted in units of 2^-149 or 2^-1074: times 2^23 or 2^52 it is significand × 2^exponent, and the significand has 24 or
+// 53 bits.
 pub struct Scaled {
     pub significand: u64,
     pub exponent: u64,
 }
 
-// The leading one of a significand, which a pattern leaves out.
-const HIDDEN_BIT: u64 = 0x80_0000;
-
-pub fn scale(exponent: u32, fraction: u32) -> Scaled
-    requires { ⌜ Ordinary exponent fraction ⌝ }
-    ensures { λ r. ⌜ Scaling (magnitudeOf binary32 (patternOf exponent fraction)) r ⌝ }
+// The operand by its pattern without sign. A subnormal one is its own magnitude, whose highest bit is brought to the place of the leading
+// one; a normal one has that bit, which the pattern leaves out.
+pub fn scale(w: Width, t: u64) -> Scaled
+    requires { ⌜ Ordinary (formatOf w) t ⌝ }
+    ensures { λ r. ⌜ Scaling w (magnitudeOf (formatOf w) t) r ⌝ }
 {
-    if exponent == 0 {
-        return normalized(fraction as u64);
+    let f = w.constants();
+    if t < f.normal {
+        let exponent = 63 - u64::leading_zeros(t) as u64;
+        return Scaled {
+            significand: t << (f.fraction - exponent),
+            exponent,
+        };
     }
     Scaled {
-        significand: HIDDEN_BIT + fraction as u64,
-        exponent: exponent as u64 + 22,
-    }
-}
-
-// A subnormal operand: its fraction is shifted up until it has 24 bits.
-fn normalized(fraction: u64) -> Scaled
-    requires { ⌜ (0 < fraction) × (fraction < 2 ^ 23) ⌝ }
-    ensures { λ r. ⌜ Scaling fraction r ⌝ }
-{
-    let mut y = fraction;
-    let mut j = 23;
-    while y < HIDDEN_BIT {
-        y = 2 * y;
-        j -= 1;
-    }
-    Scaled {
-        significand: y,
-        exponent: j,
+        significand: f.normal + t % f.normal,
+        exponent: t / f.normal + f.fraction - 1,
     }
 }

@@ -1,18 +1,23 @@
-// A pattern taken apart: sign 1 bit, exponent 8, fraction 23.
+// A pattern taken apart.
+ghost use Prim.Native.Nat.{_*_, _<_};
+ghost use Rattle.ieee.specs.Format.{signBit};
+ghost use Rattle.pattern.specs.Width.{formatOf};
 ghost use Rattle.pattern.specs.Parts.{PartsOf};
+use crate::Width;
 
+// The sign, 0 or 1, and the pattern without it.
 pub struct Parts {
-    pub sign: u32,
-    pub exponent: u32,
-    pub fraction: u32,
+    pub sign: u64,
+    pub unsigned: u64,
 }
 
-pub fn fields(bits: u32) -> Parts
-    ensures { λ r. ⌜ PartsOf bits r ⌝ }
+pub fn split(w: Width, bits: u64) -> Parts
+    requires { ⌜ bits < 2 * signBit (formatOf w) ⌝ }
+    ensures { λ r. ⌜ PartsOf (formatOf w) bits r ⌝ }
 {
+    let place = w.constants().sign;
     Parts {
-        sign: bits >> 31,
-        exponent: (bits >> 23) & 0xFF,
-        fraction: bits & 0x7F_FFFF,
+        sign: bits / place,
+        unsigned: bits % place,
     }
 }

@@ -11,8 +11,8 @@ use Rattle.ieee.specs.Answer.{answerOf}
 use Rattle.ieee.specs.Call.{binary32Refusal}
 use Rattle.ieee.proofs.Accepted.{accepted-bits, accepted-status, refused-bits, refused-status}
 use Rattle.ieee.proofs.Flags.{flags-small}
-use Rattle.pattern.specs.declared.answer.Rounded.{Rounded}
-use Rattle.pattern.specs.Answer.{roundedAnswer}
+use Rattle.binary32.specs.declared.Rounded.{Rounded}
+use Rattle.binary32.specs.Answer.{roundedAnswer}
 use Rattle.plate.specs.declared.Status.{Status}
 use Rattle.plate.specs.Status.{raised}
 use Rattle.plate.specs.Binary32.{binary32Call}

@@ -1,2 +1,2 @@
-pub mod Next
+pub mod Shifts
 pub mod Below

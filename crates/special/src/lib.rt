@@ -1,125 +1,96 @@
 // Operands that need no arithmetic: NaN before the sign, then a negative operand of a root, then zeros, then infinities.
 ghost use mathlib.Core.Path.{_≡_};
 ghost use mathlib.Core.Bool.{cond};
-ghost use Prim.Native.Nat.{_<_};
-ghost use lib.Dec.{eqb, ltb};
+ghost use Prim.Native.Nat.{_*_, _<_};
 ghost use Rattle.kinds.specs.Flag.{noFlag, invalid, divisionByZero};
-ghost use Rattle.ieee.specs.Format.{binary32, infinity, quietNaN};
-ghost use Rattle.ieee.specs.Answer.{answer, withSignBit, toNaN, toZero, toInfinity};
-ghost use Rattle.pattern.specs.Parts.{patternOf, FieldRanges};
-ghost use Rattle.pattern.specs.Answer.{roundedAnswer};
-ghost use Rattle.special.specs.Special.{isSpecial, specialTo, edgeOf};
+ghost use Rattle.ieee.specs.Format.{signBit, infinity, quietNaN};
+ghost use Rattle.ieee.specs.Answer.{answer, withSignBit, toZero, toInfinity};
+ghost use Rattle.pattern.specs.Width.{formatOf};
+ghost use Rattle.pattern.specs.Answer.{Answered};
+ghost use Rattle.special.specs.Special.{isSpecial, specialTo};
 use kinds::Flags;
 use kinds::Op;
-use pattern::Pattern;
+use pattern::Width;
 use pattern::answer::Rounded;
 use pattern::answer::flag_if;
 use pattern::answer::with_sign;
 use pattern::parts::Parts;
 
 // Whether an operand is a NaN, infinity, zero, or a negative operand of a root.
-pub fn is_special(op: Op, x: Parts) -> bool
-    requires { ⌜ FieldRanges x ⌝ }
-    ensures { λ r. ⌜ r ≡ isSpecial op x ⌝ }
+pub fn is_special(w: Width, op: Op, x: Parts) -> bool
+    ensures { λ r. ⌜ r ≡ isSpecial (formatOf w) op (x .sign) (x .unsigned) ⌝ }
 {
-    (x.exponent == 255) | is_zero(x) | ((x.sign == 1) & !op.is_reciprocal())
+    let f = w.constants();
+    (f.infinity <= x.unsigned) | (x.unsigned == 0) | ((x.sign == 1) & !op.is_reciprocal())
 }
 
-// The answer to such an operand.
-pub fn special(op: Op, x: Parts) -> Rounded
-    requires { ⌜ FieldRanges x ⌝ }
-    ensures { λ r. ⌜ r ≡ roundedAnswer (specialTo op x) ⌝ }
+// The answer to such an operand. A signalling NaN, whose top fraction bit is 0, raises invalid.
+pub fn special(w: Width, op: Op, x: Parts) -> Rounded
+    requires { ⌜ x .sign < 2 ⌝ }
+    ensures { λ r. ⌜ Answered (formatOf w) (specialTo (formatOf w) op (x .sign) (x .unsigned)) r ⌝ }
 {
-    let invalid = (x.sign == 1) & !is_zero(x) & !op.is_reciprocal();
-    choose(
-        is_nan(x),
-        at_nan(x),
-        choose(invalid, not_a_number(true), at_edge(op, x)),
-    )
-}
-
-// Zeros and infinities.
-fn at_edge(op: Op, x: Parts) -> Rounded
-    requires { ⌜ FieldRanges x ⌝ }
-    ensures { λ r. ⌜ r ≡ edgeOf op x ⌝ }
-{
-    choose(is_zero(x), at_zero(op, x.sign), at_infinity(op, x.sign))
-}
-
-fn choose(test: bool, a: Rounded, b: Rounded) -> Rounded
-    ensures { λ r. ⌜ r ≡ cond test a b ⌝ }
-{
-    if test { a } else { b }
-}
-
-fn is_nan(x: Parts) -> bool
-    requires { ⌜ FieldRanges x ⌝ }
-    ensures { λ r. ⌜ r ≡ ltb (infinity binary32) (patternOf (x .exponent) (x .fraction)) ⌝ }
-{
-    (x.exponent == 255) & (x.fraction != 0)
-}
-
-fn is_zero(x: Parts) -> bool
-    requires { ⌜ FieldRanges x ⌝ }
-    ensures { λ r. ⌜ r ≡ eqb (patternOf (x .exponent) (x .fraction)) 0 ⌝ }
-{
-    (x.exponent == 0) & (x.fraction == 0)
+    let f = w.constants();
+    let t = x.unsigned;
+    if f.infinity < t {
+        return not_a_number(w, t % f.normal < f.quiet);
+    }
+    if (x.sign == 1) & (t != 0) & !op.is_reciprocal() {
+        return not_a_number(w, true);
+    }
+    if t == 0 {
+        return at_zero(w, op, x.sign);
+    }
+    at_infinity(w, op, x.sign)
 }
 
 // The quiet NaN, which raises invalid or no flag.
-fn not_a_number(raises: bool) -> Rounded
-    ensures { λ r. ⌜ r ≡ record { bits = quietNaN binary32; flags = cond raises invalid 0 } ⌝ }
+fn not_a_number(w: Width, raises: bool) -> Rounded
+    ensures { λ r. ⌜ Answered (formatOf w) (answer (quietNaN (formatOf w)) (cond raises invalid noFlag)) r ⌝ }
 {
+    let f = w.constants();
     Rounded {
-        bits: Pattern::QUIET_NAN,
+        bits: f.infinity + f.quiet,
         flags: flag_if(raises, Flags::INVALID),
     }
 }
 
-// A signalling NaN, whose top fraction bit is 0, raises invalid.
-fn at_nan(x: Parts) -> Rounded
-    requires { ⌜ FieldRanges x ⌝ }
-    ensures { λ r. ⌜ r ≡ roundedAnswer (toNaN binary32 (patternOf (x .exponent) (x .fraction))) ⌝ }
-{
-    not_a_number(x.fraction < 0x40_0000)
-}
-
 // The root of a zero is that zero; the others give infinity of the same sign and division by zero.
-fn at_zero(op: Op, sign: u32) -> Rounded
+fn at_zero(w: Width, op: Op, sign: u64) -> Rounded
     requires { ⌜ sign < 2 ⌝ }
-    ensures { λ r. ⌜ r ≡ roundedAnswer (toZero binary32 op sign) ⌝ }
+    ensures { λ r. ⌜ Answered (formatOf w) (toZero (formatOf w) op sign) r ⌝ }
 {
     match op {
-        Op::Reciprocal => divided_by_zero(sign),
-        Op::Root => exact(with_sign(sign, 0)),
-        Op::InverseRoot => divided_by_zero(sign),
+        Op::Reciprocal => divided_by_zero(w, sign),
+        Op::Root => exact(w, with_sign(w, sign, 0)),
+        Op::InverseRoot => divided_by_zero(w, sign),
     }
 }
 
 // The reciprocal is a zero of the same sign, the root of plus infinity itself, and its inverse root plus zero.
-fn at_infinity(op: Op, sign: u32) -> Rounded
+fn at_infinity(w: Width, op: Op, sign: u64) -> Rounded
     requires { ⌜ sign < 2 ⌝ }
-    ensures { λ r. ⌜ r ≡ roundedAnswer (toInfinity binary32 op sign) ⌝ }
+    ensures { λ r. ⌜ Answered (formatOf w) (toInfinity (formatOf w) op sign) r ⌝ }
 {
     match op {
-        Op::Reciprocal => exact(with_sign(sign, 0)),
-        Op::Root => exact(Pattern::INFINITY),
-        Op::InverseRoot => exact(0),
+        Op::Reciprocal => exact(w, with_sign(w, sign, 0)),
+        Op::Root => exact(w, w.constants().infinity),
+        Op::InverseRoot => exact(w, 0),
     }
 }
 
-fn divided_by_zero(sign: u32) -> Rounded
+fn divided_by_zero(w: Width, sign: u64) -> Rounded
     requires { ⌜ sign < 2 ⌝ }
-    ensures { λ r. ⌜ r ≡ roundedAnswer (answer (withSignBit binary32 sign (infinity binary32)) divisionByZero) ⌝ }
+    ensures { λ r. ⌜ Answered (formatOf w) (answer (withSignBit (formatOf w) sign (infinity (formatOf w))) divisionByZero) r ⌝ }
 {
     Rounded {
-        bits: with_sign(sign, Pattern::INFINITY),
+        bits: with_sign(w, sign, w.constants().infinity),
         flags: Flags::DIVISION_BY_ZERO,
     }
 }
 
-fn exact(bits: u32) -> Rounded
-    ensures { λ r. ⌜ r ≡ roundedAnswer (answer bits noFlag) ⌝ }
+fn exact(w: Width, bits: u64) -> Rounded
+    requires { ⌜ bits < 2 * signBit (formatOf w) ⌝ }
+    ensures { λ r. ⌜ Answered (formatOf w) (answer bits noFlag) r ⌝ }
 {
     Rounded { bits, flags: 0 }
 }

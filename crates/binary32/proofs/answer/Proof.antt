@@ -1,39 +1,16 @@
--- `binary32::answer` meets its contract: a special operand has its answer, and any other the rounded result. Assumes nothing.
+-- `binary32::answer` meets its contract: a pattern of the format fits 32 bits. Assumes nothing.
 use borrow.Author.Needs.{needs}
-use Rattle.special.proofs.Parted.{ordinary-is}
-use Rattle.binary32.proofs.Answers.{answer-special, answer-finite}
 use Rattle.binary32.proofs.answer.Statement.{statement}
 use Rattle.binary32.proofs.answer.Tie as tie
 
-fields-requires : tie.Need-fields-requires
-fields-requires c κs = search needs
+answer-in-64-bits-requires : tie.Need-answer-in-64-bits-requires
+answer-in-64-bits-requires c κs = search needs
 
-is-special-requires : tie.Need-is-special-requires
-is-special-requires c κs = search needs
-
-special-requires : tie.Need-special-requires
-special-requires c κs = search needs
+cast-t6 : tie.Need-cast-t6
+cast-t6 c = search needs
 
 returns : tie.Need-returns
-returns c = search answer-special
-
-below-requires : tie.Need-below-requires
-below-requires c κs = search ordinary-is
-
-round-requires : tie.Need-round-requires
-round-requires c κs = search needs
-
-returns-2 : tie.Need-returns-2
-returns-2 c = search answer-finite
+returns c = let a = c .before .answer-in-64-bits .ensures in rw (a .bits-are, a .flags-are)
 
 pub answer-spec : {M : Type 1} → statement M
-answer-spec =
-    tie.close
-    (tie.spec
-    fields-requires
-    is-special-requires
-    special-requires
-    returns
-    below-requires
-    round-requires
-    returns-2)
+answer-spec = tie.close (tie.spec answer-in-64-bits-requires cast-t6 returns)

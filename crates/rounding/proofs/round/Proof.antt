@@ -4,11 +4,17 @@ use Rattle.rounding.specs.Rounded.{roundedFrom}
 use Rattle.rounding.proofs.round.Statement.{statement}
 use Rattle.rounding.proofs.round.Tie as tie
 
+constants-requires : tie.Need-constants-requires
+constants-requires c κs = search needs
+
 goes-away-requires : tie.Need-goes-away-requires
 goes-away-requires c κs = search needs
 
-next-if-requires : tie.Need-next-if-requires
-next-if-requires c κs = search needs
+add-choose : tie.Need-add-choose
+add-choose c = search needs
+
+choose-requires : tie.Need-choose-requires
+choose-requires c κs = search needs
 
 flag-if-requires : tie.Need-flag-if-requires
 flag-if-requires c κs = search needs
@@ -30,14 +36,16 @@ with-sign-requires c κs = search needs
 
 returns : tie.Need-returns
 unfolding roundedFrom
-returns c = cc
+returns c = record { bits-are = cc; flags-are = cc; pattern = search needs }
 
 pub round-spec : {M : Type 1} → statement M
 round-spec =
     tie.close
     (tie.spec
+    constants-requires
     goes-away-requires
-    next-if-requires
+    add-choose
+    choose-requires
     flag-if-requires
     flag-if-requires-2
     add-flags

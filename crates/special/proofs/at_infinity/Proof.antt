@@ -1,6 +1,7 @@
--- `special::at_infinity` meets its contract: a law for each operation. Assumes nothing.
+-- `special::at_infinity` meets its contract: each operation gives its part of the definition. Assumes nothing.
+use lib.Pow.{pow-pos}
 use borrow.Author.Needs.{needs}
-use Rattle.special.proofs.Specials.{reciprocal-infinity, root-infinity, inverse-root-infinity}
+use Rattle.special.proofs.Specials.{zero-pattern}
 use Rattle.special.proofs.at_infinity.Statement.{statement}
 use Rattle.special.proofs.at_infinity.Tie as tie
 
@@ -8,13 +9,16 @@ enum-told : tie.Need-enum-told
 enum-told c = search needs
 
 with-sign-requires : tie.Need-with-sign-requires
-with-sign-requires c κs = search needs
+with-sign-requires c κs = search (pow-pos, needs)
 
 exact-requires : tie.Need-exact-requires
 exact-requires c κs = search needs
 
 enum-told-2 : tie.Need-enum-told-2
 enum-told-2 c = search needs
+
+constants-requires : tie.Need-constants-requires
+constants-requires c κs = search needs
 
 exact-requires-2 : tie.Need-exact-requires-2
 exact-requires-2 c κs = search needs
@@ -23,16 +27,16 @@ enum-told-3 : tie.Need-enum-told-3
 enum-told-3 c = search needs
 
 exact-requires-3 : tie.Need-exact-requires-3
-exact-requires-3 c κs = search needs
+exact-requires-3 c κs = search zero-pattern
 
 returns : tie.Need-returns
-returns c = search reciprocal-infinity
+returns c = rw (c .before .before .enum-told .given .1, ← c .before .with-sign .ensures .0) (c .exact .ensures)
 
 returns-2 : tie.Need-returns-2
-returns-2 c = search root-infinity
+returns-2 c = rw (c .before .before .enum-told2 .given .1, ← c .before .constants .ensures .infinity-is) (c .exact2 .ensures)
 
 returns-3 : tie.Need-returns-3
-returns-3 c = search inverse-root-infinity
+returns-3 c = rw (c .before .enum-told3 .given .1) (c .exact3 .ensures)
 
 pub at-infinity-spec : {M : Type 1} → statement M
 at-infinity-spec =
@@ -42,6 +46,7 @@ at-infinity-spec =
     with-sign-requires
     exact-requires
     enum-told-2
+    constants-requires
     exact-requires-2
     enum-told-3
     exact-requires-3

@@ -1,6 +1,6 @@
--- `special::at_zero` meets its contract: a law for each operation. Assumes nothing.
+-- `special::at_zero` meets its contract: each operation gives its part of the definition. Assumes nothing.
+use lib.Pow.{pow-pos}
 use borrow.Author.Needs.{needs}
-use Rattle.special.proofs.Specials.{reciprocal-zero, root-zero, inverse-root-zero}
 use Rattle.special.proofs.at_zero.Statement.{statement}
 use Rattle.special.proofs.at_zero.Tie as tie
 
@@ -14,7 +14,7 @@ enum-told-2 : tie.Need-enum-told-2
 enum-told-2 c = search needs
 
 with-sign-requires : tie.Need-with-sign-requires
-with-sign-requires c κs = search needs
+with-sign-requires c κs = search (pow-pos, needs)
 
 exact-requires : tie.Need-exact-requires
 exact-requires c κs = search needs
@@ -26,13 +26,13 @@ divided-by-zero-requires-2 : tie.Need-divided-by-zero-requires-2
 divided-by-zero-requires-2 c κs = search needs
 
 returns : tie.Need-returns
-returns c = search reciprocal-zero
+returns c = rw (c .before .enum-told .given .1) (c .divided-by-zero .ensures)
 
 returns-2 : tie.Need-returns-2
-returns-2 c = search root-zero
+returns-2 c = rw (c .before .before .enum-told2 .given .1, ← c .before .with-sign .ensures .0) (c .exact .ensures)
 
 returns-3 : tie.Need-returns-3
-returns-3 c = search inverse-root-zero
+returns-3 c = rw (c .before .enum-told3 .given .1) (c .divided-by-zero2 .ensures)
 
 pub at-zero-spec : {M : Type 1} → statement M
 at-zero-spec =

@@ -1,17 +1,18 @@
--- `special::is_special` meets its contract: tests of the fields are tests of the pattern. Assumes nothing.
+-- `special::is_special` meets its contract: each test is one of the definition. Assumes nothing.
 use borrow.Author.Needs.{needs}
-use Rattle.special.proofs.Specials.{special-is}
+use Rattle.special.specs.Special.{isSpecial}
 use Rattle.special.proofs.is_special.Statement.{statement}
 use Rattle.special.proofs.is_special.Tie as tie
 
-is-zero-requires : tie.Need-is-zero-requires
-is-zero-requires c κs = search needs
+constants-requires : tie.Need-constants-requires
+constants-requires c κs = search needs
 
 is-reciprocal-requires : tie.Need-is-reciprocal-requires
 is-reciprocal-requires c κs = search needs
 
 returns : tie.Need-returns
-returns c = search special-is
+unfolding isSpecial
+returns c = cc
 
 pub is-special-spec : {M : Type 1} → statement M
-is-special-spec = tie.close (tie.spec is-zero-requires is-reciprocal-requires returns)
+is-special-spec = tie.close (tie.spec constants-requires is-reciprocal-requires returns)

@@ -1,46 +1,54 @@
 -- `special::special` meets its contract: the answers in order. Assumes nothing.
 use borrow.Author.Needs.{needs}
-use Rattle.special.proofs.Specials.{special-answer}
+use Rattle.special.proofs.Specials.{nan-answer, invalid-answer, zero-answer, infinity-answer}
 use Rattle.special.proofs.special.Statement.{statement}
 use Rattle.special.proofs.special.Tie as tie
 
-is-zero-requires : tie.Need-is-zero-requires
-is-zero-requires c κs = search needs
+constants-requires : tie.Need-constants-requires
+constants-requires c κs = search needs
 
-is-reciprocal-requires : tie.Need-is-reciprocal-requires
-is-reciprocal-requires c κs = search needs
-
-is-nan-requires : tie.Need-is-nan-requires
-is-nan-requires c κs = search needs
-
-at-nan-requires : tie.Need-at-nan-requires
-at-nan-requires c κs = search needs
+rem-not-a-number : tie.Need-rem-not-a-number
+rem-not-a-number c = search needs
 
 not-a-number-requires : tie.Need-not-a-number-requires
 not-a-number-requires c κs = search needs
 
-at-edge-requires : tie.Need-at-edge-requires
-at-edge-requires c κs = search needs
-
-choose-requires : tie.Need-choose-requires
-choose-requires c κs = search needs
-
-choose-requires-2 : tie.Need-choose-requires-2
-choose-requires-2 c κs = search needs
-
 returns : tie.Need-returns
-returns c = search special-answer
+returns c = search nan-answer
+
+is-reciprocal-requires : tie.Need-is-reciprocal-requires
+is-reciprocal-requires c κs = search needs
+
+not-a-number-requires-2 : tie.Need-not-a-number-requires-2
+not-a-number-requires-2 c κs = search needs
+
+returns-2 : tie.Need-returns-2
+returns-2 c = search invalid-answer
+
+at-zero-requires : tie.Need-at-zero-requires
+at-zero-requires c κs = search needs
+
+returns-3 : tie.Need-returns-3
+returns-3 c = search zero-answer
+
+at-infinity-requires : tie.Need-at-infinity-requires
+at-infinity-requires c κs = search needs
+
+returns-4 : tie.Need-returns-4
+returns-4 c = search infinity-answer
 
 pub special-spec : {M : Type 1} → statement M
 special-spec =
     tie.close
     (tie.spec
-    is-zero-requires
-    is-reciprocal-requires
-    is-nan-requires
-    at-nan-requires
+    constants-requires
+    rem-not-a-number
     not-a-number-requires
-    at-edge-requires
-    choose-requires
-    choose-requires-2
-    returns)
+    returns
+    is-reciprocal-requires
+    not-a-number-requires-2
+    returns-2
+    at-zero-requires
+    returns-3
+    at-infinity-requires
+    returns-4)

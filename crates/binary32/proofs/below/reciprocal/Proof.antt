@@ -19,8 +19,8 @@ cast-g c = search needs
 reciprocal-requires-2 : tie.Need-reciprocal-requires-2
 reciprocal-requires-2 c κs = (search needs, search needs, search reciprocal-near)
 
-sub-lower : tie.Need-sub-lower
-sub-lower c = search needs
+sub-k : tie.Need-sub-k
+sub-k c = search needs
 
 lower-requires : tie.Need-lower-requires
 lower-requires c κs = (search reciprocal-small, search needs)
@@ -37,6 +37,6 @@ reciprocal-spec =
     reciprocal-requires
     cast-g
     reciprocal-requires-2
-    sub-lower
+    sub-k
     lower-requires
     returns)
