@@ -1,7 +1,7 @@
 -- A magnitude as a significand and a power of two. Assumes nothing.
-use mathlib.Core.Path.{_≡_, ap}
+use mathlib.Core.Path.{_≡_, sym, ap, _∙_}
 use Prim.Native.Nat.{ℕ, zero, suc, _+_, _*_, _-_, _/_, _%_, _^_, _≤_, _<_}
-use native.Mathlib.Nat.{pow-suc, mod-eq-of-lt, mod-lt, div-le-self, mul-le-mul-right, mul-lt-mul-of-pos-right, div-lt-iff-lt-mul, le-div-iff-mul-le}
+use native.Mathlib.Nat.{pow-suc, mod-eq-of-lt, mod-lt, div-le-self, mul-le-mul-right, mul-lt-mul-of-pos-right, div-lt-iff-lt-mul, lt-mul-div-succ}
 use native.Mathlib.Omega.{arith}
 use lib.Count.{leadingZeros}
 use lib.Dec.{lit<}
@@ -14,7 +14,9 @@ use Rattle.leading.proofs.Significands.{exponentOf, zeros-most, top-is, top-nex
 use Rattle.ieee.specs.Format.{scaled, magnitudeOf}
 use Rattle.ieee.proofs.Neighbours.{magnitude-small}
 use Rattle.pattern.specs.Width.{formatOf, kOf, tOf, ConstantsOf}
+use Rattle.pattern.specs.Parts.{FieldsOf}
 use Rattle.pattern.specs.Operand.{Ordinary, Scaling}
+use Rattle.pattern.specs.declared.parts.Parts.{Parts}
 use Rattle.pattern.specs.declared.Width.{Width}
 use Rattle.pattern.specs.declared.Width.the-variants.{Binary32, Binary64}
 use Rattle.pattern.specs.declared.Constants.{Constants}
@@ -51,57 +53,71 @@ normal-is : (m e x : ℕ) → 1 ≤ e → scaled m e x * 2 ^ m ≡ (2 ^ m + x) *
 normal-is m zero x p = absurd (omega arith)
 normal-is m (suc e) x p = omega (arith, ap (λ (n : ℕ). (2 ^ m + x) * n) (power-sum e m (suc e + m - 1) (omega arith)))
 
-module _ (w : Width) (t : ℕ) (c : Constants) (k : ConstantsOf (formatOf w) c) (o : Ordinary (formatOf w) t) where
-  -- the operand fits a word, and so does what is worked from it
+-- a floored quotient that is 0
+div-zero-lt : (n d : ℕ) → 0 < d → n / d ≡ 0 → n < d
+div-zero-lt n d some e = omega (arith, lt-mul-div-succ n some, ap (λ (q : ℕ). d * q) e)
+
+module _ (w : Width) (x : Parts) (c : Constants) (k : ConstantsOf (formatOf w) c) (o : Ordinary (formatOf w) (x .unsigned)) (d : FieldsOf (formatOf w) x) where
+  abbrev t : ℕ
+  t = x .unsigned
+  -- what is worked from the operand fits a word
   whole : t < 2 ^ 64
   whole = omega (arith, k, o .finite)
 
-  pub zeros-few : leadingZeros 64 t ≤ 63
-  zeros-few = zeros-most t (o .some) whole
+  fraction-small : x .fraction < 2 ^ formatOf w .fractionBits
+  fraction-small = rw (d .fraction) (mod-lt t (pow-pos (formatOf w .fractionBits)))
 
-  pub zeros-cast : Fits w64 (leadingZeros 64 t)
-  zeros-cast = omega (arith, zeros-few)
+  pub significand-fits : Fits w64 (c .normal + x .fraction)
+  significand-fits = omega (arith, fraction-small, k)
 
-  pub significand-fits : Fits w64 (c .normal + t % c .normal)
-  significand-fits = omega (arith, mod-lt t {m = c .normal} (omega arith), k)
+  pub exponent-fits : Fits w64 (x .exponent + c .fraction)
+  exponent-fits = omega (arith, d .exponent, div-le-self t (2 ^ formatOf w .fractionBits), k, o .finite)
 
-  pub exponent-fits : Fits w64 (t / c .normal + c .fraction)
-  exponent-fits = omega (arith, div-le-self t (c .normal), k, o .finite)
+  -- a subnormal operand is its fraction
+  module _ (subnormal : x .exponent ≡ 0) where
+    small : t < 2 ^ formatOf w .fractionBits
+    small = div-zero-lt t (2 ^ formatOf w .fractionBits) (pow-pos (formatOf w .fractionBits)) (sym (d .exponent) ∙ subnormal)
 
-  module _ (subnormal : t < c .normal) where
+    alone : x .fraction ≡ t
+    alone = d .fraction ∙ mod-eq-of-lt small
+
+    pub zeros-few : leadingZeros 64 (x .fraction) ≤ 63
+    zeros-few = rw alone (zeros-most t (o .some) whole)
+
+    pub zeros-cast : Fits w64 (leadingZeros 64 (x .fraction))
+    zeros-cast = omega (arith, zeros-few)
+
     low : 2 ^ exponentOf t ≤ t
     low = top-is t (o .some) whole
 
     high : t < 2 * 2 ^ exponentOf t
     high = top-next t (o .some) whole
 
-    small : t < 2 ^ formatOf w .fractionBits
-    small = omega (arith, k .normal-is)
+    pub exponent-few : exponentOf (x .fraction) ≤ c .fraction
+    exponent-few = rw alone (omega (arith, k .fraction-is, below (formatOf w .fractionBits) t (exponentOf t) low high small))
 
-    pub exponent-few : exponentOf t ≤ c .fraction
-    exponent-few = omega (arith, k .fraction-is, below (formatOf w .fractionBits) t (exponentOf t) low high small)
-
-    pub subnormal-scaled : Scaling w (magnitudeOf (formatOf w) t) (record { significand = t * 2 ^ (c .fraction - exponentOf t) % 2 ^ 64; exponent = exponentOf t })
+    pub subnormal-scaled : Scaling w (magnitudeOf (formatOf w) (x .unsigned))
+        (record { significand = x .fraction * 2 ^ (c .fraction - exponentOf (x .fraction)) % 2 ^ 64; exponent = exponentOf (x .fraction) })
     subnormal-scaled =
         let m = formatOf w .fractionBits in
         let j = exponentOf t in
         let most = lifted-most m t j low high small in
         let fits : t * 2 ^ (m - j) % 2 ^ 64 ≡ t * 2 ^ (m - j) = mod-eq-of-lt (omega (arith, most, k)) in
-        rw (k .fraction-is, fits, magnitude-small (formatOf w) t (omega (arith, small, pow-suc 2 m)))
+        rw (alone, k .fraction-is, fits, magnitude-small (formatOf w) t (omega (arith, small, pow-suc 2 m)))
         (record {
           is = lifted-is m t j low high small;
           significand = significand-is w (t * 2 ^ (m - j)) (lifted-least m t j low high small) most;
           small = omega (arith, below m t j low high small, exponents w);
         })
 
-  pub normal-scaled : c .normal ≤ t
-      → Scaling w (magnitudeOf (formatOf w) t) (record { significand = c .normal + t % c .normal; exponent = t / c .normal + c .fraction - 1 })
+  pub normal-scaled : (x .exponent ≡ 0 → ⊥)
+      → Scaling w (magnitudeOf (formatOf w) (x .unsigned)) (record { significand = c .normal + x .fraction; exponent = x .exponent + c .fraction - 1 })
   unfolding magnitudeOf
-  normal-scaled l =
+  normal-scaled normal =
       let m = formatOf w .fractionBits in
-      let x : t % 2 ^ m < 2 ^ m = mod-lt t (pow-pos m) in
-      let e : 1 ≤ t / 2 ^ m = le-div-iff-mul-le (pow-pos m) .1 (omega (arith, k .normal-is)) in
-      rw (k .normal-is, k .fraction-is)
+      let e : 1 ≤ t / 2 ^ m = omega (arith, d .exponent, normal) in
+      let r : t % 2 ^ m < 2 ^ m = mod-lt t (pow-pos m) in
+      rw (d .exponent, d .fraction, k .normal-is, k .fraction-is)
       (record {
         is = normal-is m (t / 2 ^ m) (t % 2 ^ m) e;
         significand = significand-is w (2 ^ m + t % 2 ^ m) (omega arith) (omega arith);

@@ -23,5 +23,5 @@ pub fn with_sign(w: Width, sign: u64, t: u64) -> u64
     requires { ⌜ (sign < 2) × (t < signBit (formatOf w)) ⌝ }
     ensures { λ r. ⌜ (r ≡ withSignBit (formatOf w) sign t) × (r < 2 * signBit (formatOf w)) ⌝ }
 {
-    sign * w.constants().sign + t
+    (sign << w.constants().place) | t
 }

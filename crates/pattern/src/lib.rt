@@ -11,10 +11,12 @@ pub enum Width {
     Binary64,
 }
 
-// The numbers of a format: how many bits a fraction has, the sign's place, the patterns of the least normal number and of infinity, and
-// the top bit of a fraction, which is 1 in a quiet NaN and 0 in a signalling one.
+// The numbers of a format: how many bits a fraction has, and how many stand below the sign; the mask of an exponent; the sign's bit, the
+// patterns of the least normal number and of infinity, and the top bit of a fraction, which is 1 in a quiet NaN and 0 in a signalling one.
 pub struct Constants {
     pub fraction: u64,
+    pub place: u64,
+    pub exponents: u64,
     pub sign: u64,
     pub normal: u64,
     pub infinity: u64,
@@ -28,6 +30,8 @@ impl Width {
         match self {
             Width::Binary32 => Constants {
                 fraction: 23,
+                place: 31,
+                exponents: 0xFF,
                 sign: 0x8000_0000,
                 normal: 0x80_0000,
                 infinity: 0x7F80_0000,
@@ -35,6 +39,8 @@ impl Width {
             },
             Width::Binary64 => Constants {
                 fraction: 52,
+                place: 63,
+                exponents: 0x7FF,
                 sign: 0x8000_0000_0000_0000,
                 normal: 0x10_0000_0000_0000,
                 infinity: 0x7FF0_0000_0000_0000,

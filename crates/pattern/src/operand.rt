@@ -1,8 +1,10 @@
 // A finite operand as a significand and a power of two.
 ghost use Rattle.ieee.specs.Format.{magnitudeOf};
 ghost use Rattle.pattern.specs.Width.{formatOf};
+ghost use Rattle.pattern.specs.Parts.{FieldsOf};
 ghost use Rattle.pattern.specs.Operand.{Ordinary, Scaling};
 use crate::Width;
+use crate::parts::Parts;
 
 // A magnitude, counted in units of 2^-149 or 2^-1074: times 2^23 or 2^52 it is significand × 2^exponent, and the significand has 24 or
 // 53 bits.
@@ -11,22 +13,22 @@ pub struct Scaled {
     pub exponent: u64,
 }
 
-// The operand by its pattern without sign. A subnormal one is its own magnitude, whose highest bit is brought to the place of the leading
-// one; a normal one has that bit, which the pattern leaves out.
-pub fn scale(w: Width, t: u64) -> Scaled
-    requires { ⌜ Ordinary (formatOf w) t ⌝ }
-    ensures { λ r. ⌜ Scaling w (magnitudeOf (formatOf w) t) r ⌝ }
+// A subnormal operand is its own magnitude, whose highest bit is brought to the place of the leading one; a normal one has that bit, which
+// the pattern leaves out.
+pub fn scale(w: Width, x: Parts) -> Scaled
+    requires { ⌜ Ordinary (formatOf w) (x .unsigned) × FieldsOf (formatOf w) x ⌝ }
+    ensures { λ r. ⌜ Scaling w (magnitudeOf (formatOf w) (x .unsigned)) r ⌝ }
 {
     let f = w.constants();
-    if t < f.normal {
-        let exponent = 63 - u64::leading_zeros(t) as u64;
+    if x.exponent == 0 {
+        let exponent = 63 - u64::leading_zeros(x.fraction) as u64;
         return Scaled {
-            significand: t << (f.fraction - exponent),
+            significand: x.fraction << (f.fraction - exponent),
             exponent,
         };
     }
     Scaled {
-        significand: f.normal + t % f.normal,
-        exponent: t / f.normal + f.fraction - 1,
+        significand: f.normal + x.fraction,
+        exponent: x.exponent + f.fraction - 1,
     }
 }

@@ -1,5 +1,4 @@
--- `pattern::operand::scale` meets its contract: the highest bit of a subnormal operand is brought up, and a normal one has its leading one.
--- Assumes nothing.
+-- `pattern::operand::scale` meets its contract: the highest bit of a subnormal operand is brought up, and a normal one has its leading one. Assumes nothing.
 use borrow.Author.Needs.{needs}
 use Rattle.pattern.proofs.Magnitudes.{zeros-few, zeros-cast, significand-fits, exponent-fits, exponent-few, subnormal-scaled, normal-scaled}
 use Rattle.pattern.proofs.operand.scale.Statement.{statement}
@@ -23,23 +22,20 @@ shl-t8 c = search needs
 returns : tie.Need-returns
 returns c = search subnormal-scaled
 
-rem-t9 : tie.Need-rem-t9
-rem-t9 c = search needs
+add-t9 : tie.Need-add-t9
+add-t9 c = search significand-fits
 
 add-t10 : tie.Need-add-t10
-add-t10 c = search significand-fits
+add-t10 c = search exponent-fits
 
-div-t11 : tie.Need-div-t11
-div-t11 c = search needs
-
-add-t12 : tie.Need-add-t12
-add-t12 c = search exponent-fits
-
-sub-t13 : tie.Need-sub-t13
-sub-t13 c = search needs
+sub-t11 : tie.Need-sub-t11
+sub-t11 c = search needs
 
 returns-2 : tie.Need-returns-2
-returns-2 c = search normal-scaled
+returns-2 c =
+    let e = c .before .before .before .before in
+    let a = e .before .before in
+    normal-scaled _ _ _ (a .constants .ensures) (a .before .pre .0) (a .before .pre .1) (e .if1 .left)
 
 pub scale-spec : {M : Type 1} → statement M
 scale-spec =
@@ -51,9 +47,7 @@ scale-spec =
     sub-t7
     shl-t8
     returns
-    rem-t9
+    add-t9
     add-t10
-    div-t11
-    add-t12
-    sub-t13
+    sub-t11
     returns-2)
