@@ -5,14 +5,14 @@ use Prim.Native.Nat.{ℕ}
 use Rattle.kinds.specs.declared.Op.{Op}
 use Rattle.kinds.specs.declared.Mode.{Mode}
 use Rattle.ieee.specs.Format.{binary32}
-use Rattle.ieee.specs.Answer.{answerTo, answerOf}
+use Rattle.ieee.specs.Answer.{isSpecial, answerTo, answerOf}
 use Rattle.ieee.proofs.Finite.{answer-parts}
 use Rattle.pattern.specs.Parts.{PartsOf}
 use Rattle.pattern.specs.Answer.{Answered}
 use Rattle.pattern.specs.declared.Width.the-variants.{Binary32}
 use Rattle.pattern.specs.declared.parts.Parts.{Parts}
 use Rattle.pattern.specs.declared.answer.Rounded.{Rounded}
-use Rattle.special.specs.Special.{isSpecial, specialTo}
+use Rattle.special.specs.Special.{specialTo}
 use Rattle.special.proofs.Parted.{special-parted, ordinary-parted}
 use Rattle.rounding.specs.Rounded.{roundedFrom}
 use Rattle.rounding.specs.declared.neighbour.Neighbour.{Neighbour}

@@ -1,15 +1,17 @@
 // The pattern below the exact result of each operation on a positive finite operand, through the raw unit.
 ghost use Rattle.kinds.specs.declared.Op.the-variants.{Reciprocal, Root, InverseRoot};
 ghost use Rattle.ieee.specs.Format.{binary32};
+ghost use Rattle.pattern.specs.Parts.{FieldsOf};
 ghost use Rattle.pattern.specs.Operand.{Ordinary};
 ghost use Rattle.binary32.specs.Below.{BelowResult};
 use kinds::Op;
 use pattern::Width;
 use pattern::operand::scale;
+use pattern::parts::Parts;
 use rounding::neighbour::Neighbour;
 use rounding::neighbour::lower;
 
-// A floor q at the scale k stands for q × 2^(k − 3) units of 2^-149. The operand is X = y / 2^23 × 2^(j − 149), j = x.exponent.
+// A floor q at the scale k stands for q × 2^(k − 3) units of 2^-149. The operand is X = y / 2^23 × 2^(j − 149), j its exponent.
 // 1 / X is 2^48 / y × 2^(2·149 − 25 − j) units.
 const RECIPROCAL_SCALE: u64 = 2 * 149 - 25 + 3;
 
@@ -19,37 +21,37 @@ const ROOT_SCALE: u64 = 149 - 2 * 24 + 2 * 3;
 // Twice the scale. 1 / √X is √(2^(73 − p) / y) × 2^(149 − 25 + (149 − j + p) / 2) units.
 const INVERSE_ROOT_SCALE: u64 = 3 * 149 - 2 * 25 + 2 * 3;
 
-pub fn below(op: Op, t: u64) -> Neighbour
-    requires { ⌜ Ordinary binary32 t ⌝ }
-    ensures { λ r. ⌜ BelowResult op t r ⌝ }
+pub fn below(op: Op, x: Parts) -> Neighbour
+    requires { ⌜ Ordinary binary32 (x .unsigned) × FieldsOf binary32 x ⌝ }
+    ensures { λ r. ⌜ BelowResult op (x .unsigned) r ⌝ }
 {
     match op {
-        Op::Reciprocal => reciprocal(t),
-        Op::Root => root(t),
-        Op::InverseRoot => inverse_root(t),
+        Op::Reciprocal => reciprocal(x),
+        Op::Root => root(x),
+        Op::InverseRoot => inverse_root(x),
     }
 }
 
-fn reciprocal(t: u64) -> Neighbour
-    requires { ⌜ Ordinary binary32 t ⌝ }
-    ensures { λ r. ⌜ BelowResult Reciprocal t r ⌝ }
+fn reciprocal(x: Parts) -> Neighbour
+    requires { ⌜ Ordinary binary32 (x .unsigned) × FieldsOf binary32 x ⌝ }
+    ensures { λ r. ⌜ BelowResult Reciprocal (x .unsigned) r ⌝ }
 {
-    let x = scale(Width::Binary32, t);
-    let y = x.significand;
+    let s = scale(Width::Binary32, x);
+    let y = s.significand;
     let g = raw::reciprocal(y as u32) as u64;
     let r = floors::reciprocal(y, g);
-    let k = RECIPROCAL_SCALE - x.exponent;
+    let k = RECIPROCAL_SCALE - s.exponent;
     lower(Width::Binary32, r.quotient, r.left != 0, k)
 }
 
 // The parity is what is over. Twice the scale is not negative, so that the halving floors: −3 is twice −2 with parity 1.
-fn root(t: u64) -> Neighbour
-    requires { ⌜ Ordinary binary32 t ⌝ }
-    ensures { λ r. ⌜ BelowResult Root t r ⌝ }
+fn root(x: Parts) -> Neighbour
+    requires { ⌜ Ordinary binary32 (x .unsigned) × FieldsOf binary32 x ⌝ }
+    ensures { λ r. ⌜ BelowResult Root (x .unsigned) r ⌝ }
 {
-    let x = scale(Width::Binary32, t);
-    let y = x.significand;
-    let twice = x.exponent + ROOT_SCALE;
+    let s = scale(Width::Binary32, x);
+    let y = s.significand;
+    let twice = s.exponent + ROOT_SCALE;
     let p = twice % 2;
     let g = raw::root(y as u32, p as u32) as u64;
     let r = floors::root(y, p, g);
@@ -57,13 +59,13 @@ fn root(t: u64) -> Neighbour
 }
 
 // The parity is what is added; the halving rounds up.
-fn inverse_root(t: u64) -> Neighbour
-    requires { ⌜ Ordinary binary32 t ⌝ }
-    ensures { λ r. ⌜ BelowResult InverseRoot t r ⌝ }
+fn inverse_root(x: Parts) -> Neighbour
+    requires { ⌜ Ordinary binary32 (x .unsigned) × FieldsOf binary32 x ⌝ }
+    ensures { λ r. ⌜ BelowResult InverseRoot (x .unsigned) r ⌝ }
 {
-    let x = scale(Width::Binary32, t);
-    let y = x.significand;
-    let twice = INVERSE_ROOT_SCALE - x.exponent;
+    let s = scale(Width::Binary32, x);
+    let y = s.significand;
+    let twice = INVERSE_ROOT_SCALE - s.exponent;
     let p = twice % 2;
     let g = raw::inverse_root(y as u32, p as u32) as u64;
     let r = floors::inverse_root(y, p, g);

@@ -13,7 +13,7 @@ use kinds::Mode;
 use kinds::Op;
 use kinds::ask;
 use pattern::Width;
-use pattern::parts::split;
+use pattern::parts::fields;
 use rounding::round;
 use special::is_special;
 use special::special;
@@ -48,9 +48,9 @@ fn answer_in_64_bits(op: Op, mode: Mode, bits: u64) -> pattern::answer::Rounded
     requires { ⌜ bits < 2 ^ 32 ⌝ }
     ensures { λ r. ⌜ Answered binary32 (answerOf binary32 op mode bits) r ⌝ }
 {
-    let x = split(Width::Binary32, bits);
+    let x = fields(Width::Binary32, bits);
     if is_special(Width::Binary32, op, x) {
         return special(Width::Binary32, op, x);
     }
-    round(Width::Binary32, mode, x.sign, below(op, x.unsigned))
+    round(Width::Binary32, mode, x.sign, below(op, x))
 }

@@ -5,13 +5,15 @@ use Prim.Native.Nat.{ℕ, _%_}
 use lib.Dec.{T}
 use lib.Bits.{bitOr}
 use borrow.Author.Tests.{ne-eqb}
-use Rattle.kinds.specs.Operation.{isOperation, opOf}
-use Rattle.kinds.specs.Rounding.{isRounding, modeOf}
+use Rattle.kinds.specs.declared.Op.{Op}
+use Rattle.kinds.specs.declared.Mode.{Mode}
+use Rattle.kinds.specs.Operation.{isOperation}
+use Rattle.kinds.specs.Rounding.{isRounding}
 use Rattle.kinds.specs.Question.{ask}
 use Rattle.kinds.proofs.Questions.{yes, asked}
-use Rattle.ieee.specs.Format.{binary32}
+use Rattle.ieee.specs.Format.{Format}
 use Rattle.ieee.specs.Answer.{answerOf}
-use Rattle.ieee.specs.Call.{binary32Refusal, binary32Bits, binary32Status}
+use Rattle.ieee.specs.Call.{bitsOf, statusOf, binary32Refusal}
 
 -- the two questions, each worked out by itself
 pub refusal-is : (operation rounding q r : ℕ) (known mode : Bool) → known ≡ isOperation operation → mode ≡ isRounding rounding
@@ -30,22 +32,21 @@ unfolding binary32Refusal
 accepted operation rounding e =
     let first = yes (isOperation operation) 0 (ask (isRounding rounding) 2 0) e in (first .0, yes (isRounding rounding) 1 0 (first .1) .0)
 
-module _ (operation rounding b : ℕ) where
+module _ (f : Format) (n : ℕ) (op : Op) (mode : Mode) (b : ℕ) where
   -- an accepted call gives the answer's bits, and joins the answer's flags to the status
-  pub accepted-bits : binary32Refusal operation rounding ≡ 0 → binary32Bits operation rounding b ≡ answerOf binary32 (opOf operation) (modeOf rounding) b .bits
-  unfolding binary32Bits
+  pub accepted-bits : n ≡ 0 → bitsOf f n op mode b ≡ answerOf f op mode b .bits
+  unfolding bitsOf
   accepted-bits e = rw e
 
-  pub accepted-status : binary32Refusal operation rounding ≡ 0 → (status : ℕ)
-      → binary32Status operation rounding b status ≡ bitOr (status % 32) (answerOf binary32 (opOf operation) (modeOf rounding) b .flags)
-  unfolding binary32Status
+  pub accepted-status : n ≡ 0 → (status : ℕ) → statusOf f n op mode b status ≡ bitOr (status % 32) (answerOf f op mode b .flags)
+  unfolding statusOf
   accepted-status e status = rw e
 
   -- a refused call gives 0, and the status as it was
-  pub refused-bits : (binary32Refusal operation rounding ≡ 0 → ⊥) → binary32Bits operation rounding b ≡ 0
-  unfolding binary32Bits
-  refused-bits h = rw (ne-eqb (binary32Refusal operation rounding) 0 h)
+  pub refused-bits : (n ≡ 0 → ⊥) → bitsOf f n op mode b ≡ 0
+  unfolding bitsOf
+  refused-bits h = rw (ne-eqb n 0 h)
 
-  pub refused-status : (binary32Refusal operation rounding ≡ 0 → ⊥) → (status : ℕ) → binary32Status operation rounding b status ≡ status
-  unfolding binary32Status
-  refused-status h status = rw (ne-eqb (binary32Refusal operation rounding) 0 h)
+  pub refused-status : (n ≡ 0 → ⊥) → (status : ℕ) → statusOf f n op mode b status ≡ status
+  unfolding statusOf
+  refused-status h status = rw (ne-eqb n 0 h)

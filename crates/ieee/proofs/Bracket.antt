@@ -6,21 +6,20 @@ use mathlib.Core.Logic.{by-cases}
 use Prim.Native.Nat.{ℕ, suc, _<_}
 use native.Mathlib.Decide.{ℕ-discrete}
 use native.Mathlib.Omega.{arith}
-use lib.Dec.{T, lit<, lit≤}
+use lib.Dec.{lit<, lit≤}
 use Rattle.kinds.specs.declared.Op.{Op}
-use Rattle.kinds.specs.Operation.{isOperation, opOf}
 use Rattle.kinds.specs.declared.Mode.{Mode}
 use Rattle.kinds.specs.declared.Mode.the-variants.{Up, Down}
 use Rattle.kinds.proofs.Directed.{rounded-exact, rounded-down, rounded-up}
-use Rattle.ieee.specs.Format.{Format, binary32, unitOf, infinity, magnitudeOf}
+use Rattle.ieee.specs.Format.{Format, binary32, binary64, unitOf, infinity, magnitudeOf}
 use Rattle.ieee.specs.Rounded.{side, limit, lowerOf, placeAt, roundedOf}
 use Rattle.ieee.specs.Answer.{Answer, answerOf}
-use Rattle.ieee.specs.Call.{binary32Bits}
+use Rattle.ieee.specs.Call.{bitsOf}
 use Rattle.ieee.specs.Agree.{Agree}
 use Rattle.ieee.specs.Bracket.{Bracket}
 use Rattle.ieee.proofs.Representable.{Regular}
 use Rattle.ieee.proofs.Exact.{reached-agrees, agree-reached}
-use Rattle.ieee.proofs.Accepted.{unrefused, accepted-bits}
+use Rattle.ieee.proofs.Accepted.{accepted-bits}
 use Rattle.ieee.proofs.Finite.{finite-answer}
 
 module _ (f : Format) (op : Op) (x : ℕ) where
@@ -63,17 +62,13 @@ module _ (f : Format) (r : Regular f) (op : Op) (t : ℕ) (positive : 0 < t) (fi
         next = λ s. next;
       })
 
--- binary32 is such a format
+  -- and of two accepted calls, whatever status each is given and whatever else it was asked
+  pub calls-bracket : (m n : ℕ) → m ≡ 0 → n ≡ 0 → Bracket (Agree f op (magnitudeOf f t)) (bitsOf f m op Down t) (bitsOf f n op Up t)
+  calls-bracket m n d e = rw (accepted-bits f m op Down t d, accepted-bits f n op Up t e) format-bracket
+
+-- both formats are such
 pub binary32-regular : Regular binary32
 binary32-regular = record { exponent = lit< tt; fraction = lit< tt; wide = lit≤ tt }
 
--- the bracket of the binary32 answers
-pub bracket : (op : Op) (t : ℕ) → 0 < t → t < infinity binary32
-    → Bracket (Agree binary32 op (magnitudeOf binary32 t)) (answerOf binary32 op Down t .bits) (answerOf binary32 op Up t .bits)
-bracket op t = format-bracket binary32 binary32-regular op t
-
--- and of two calls, rounding 2 down and rounding 1 up, whatever status each is given
-pub call-bracket : (operation : ℕ) → T (isOperation operation) → (t : ℕ) → 0 < t → t < infinity binary32
-    → Bracket (Agree binary32 (opOf operation) (magnitudeOf binary32 t)) (binary32Bits operation 2 t) (binary32Bits operation 1 t)
-call-bracket operation h t p l =
-    rw (accepted-bits operation 2 t (unrefused operation 2 h tt), accepted-bits operation 1 t (unrefused operation 1 h tt)) (bracket (opOf operation) t p l)
+pub binary64-regular : Regular binary64
+binary64-regular = record { exponent = lit< tt; fraction = lit< tt; wide = lit≤ tt }

@@ -8,15 +8,14 @@ use lib.Dec.{lit<, ltb, eqb}
 use lib.Bits.{or-lt}
 use Rattle.kinds.specs.declared.Op.{Op}
 use Rattle.kinds.specs.declared.Op.the-variants.{Reciprocal, Root, InverseRoot}
-use Rattle.kinds.specs.Operation.{isReciprocal, opOf}
+use Rattle.kinds.specs.Operation.{isReciprocal}
 use Rattle.kinds.specs.declared.Mode.{Mode}
-use Rattle.kinds.specs.Rounding.{modeOf}
 use Rattle.kinds.specs.Flag.{invalid, overflow, underflow, inexact}
 use Rattle.numbers.proofs.Bits.{bit, bit-or, or-keeps}
-use Rattle.ieee.specs.Format.{Format, binary32, infinity, quietNaN, magnitudeOf}
+use Rattle.ieee.specs.Format.{Format, infinity, quietNaN, magnitudeOf}
 use Rattle.ieee.specs.Rounded.{flagsOf, isOverflow, isUnderflow, isInexact}
 use Rattle.ieee.specs.Answer.{Answer, answer, toNaN, toZero, toInfinity, toFinite, answerOf, signBitOf, unsigned}
-use Rattle.ieee.specs.Call.{binary32Refusal, binary32Status}
+use Rattle.ieee.specs.Call.{statusOf}
 use Rattle.ieee.proofs.Accepted.{accepted-status}
 
 -- a flag that may be raised is 0 or itself
@@ -69,20 +68,18 @@ few f op mode b =
 pub flags-small : (f : Format) (op : Op) (mode : Mode) (b : ℕ) → answerOf f op mode b .flags < 32
 flags-small f op mode b = few f op mode b .small
 
-module _ (operation rounding b status : ℕ) (accepted : binary32Refusal operation rounding ≡ 0) where
+-- of a call over the format, whose refusal n is 0
+module _ (f : Format) (n : ℕ) (op : Op) (mode : Mode) (b status : ℕ) (accepted : n ≡ 0) where
   -- an accepted call returns one of the 32 statuses, its unknown bits zero,
-  pub status-small : binary32Status operation rounding b status < 32
+  pub status-small : statusOf f n op mode b status < 32
   status-small =
-      rw (accepted-status operation rounding b accepted status)
-      (or-lt 5 (status % 32) (answerOf binary32 (opOf operation) (modeOf rounding) b .flags) (mod-lt status (lit< tt))
-      (flags-small binary32 (opOf operation) (modeOf rounding) b))
+      rw (accepted-status f n op mode b accepted status)
+      (or-lt 5 (status % 32) (answerOf f op mode b .flags) (mod-lt status (lit< tt)) (flags-small f op mode b))
 
   -- in which a flag stands exactly where it stood or the answer has it,
-  pub status-joins : (k : ℕ)
-      → bit k (binary32Status operation rounding b status)
-      ≡ max (bit k (status % 32)) (bit k (answerOf binary32 (opOf operation) (modeOf rounding) b .flags))
-  status-joins k = rw (accepted-status operation rounding b accepted status) (bit-or k (status % 32) _)
+  pub status-joins : (k : ℕ) → bit k (statusOf f n op mode b status) ≡ max (bit k (status % 32)) (bit k (answerOf f op mode b .flags))
+  status-joins k = rw (accepted-status f n op mode b accepted status) (bit-or k (status % 32) _)
 
   -- so that no flag that stood is lost
-  pub status-keeps : (k : ℕ) → bit k (status % 32) ≤ bit k (binary32Status operation rounding b status)
-  status-keeps k = rw (accepted-status operation rounding b accepted status) (or-keeps k (status % 32) _)
+  pub status-keeps : (k : ℕ) → bit k (status % 32) ≤ bit k (statusOf f n op mode b status)
+  status-keeps k = rw (accepted-status f n op mode b accepted status) (or-keeps k (status % 32) _)

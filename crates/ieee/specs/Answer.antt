@@ -1,7 +1,7 @@
 -- What an operation answers to a pattern: bits and flags, special operands first, in document 01's order. Assumes nothing.
 use Prim.Native.Nat.{ℕ, _+_, _*_, _-_, _/_, _%_, _^_}
-use mathlib.Core.Bool.{cond, not, _&&_}
-use lib.Dec.{ltb, eqb}
+use mathlib.Core.Bool.{Bool, cond, not, _&&_, _||_}
+use lib.Dec.{leb, ltb, eqb}
 use Rattle.kinds.specs.declared.Op.{Op}
 use Rattle.kinds.specs.declared.Op.the-variants.{Reciprocal, Root, InverseRoot}
 use Rattle.kinds.specs.Operation.{isReciprocal}
@@ -28,6 +28,10 @@ unsigned f b = b % signBit f
 -- a pattern without sign, given the sign s
 abbrev pub withSignBit : Format → ℕ → ℕ → ℕ
 withSignBit f s t = s * signBit f + t
+
+-- operands that need no arithmetic: infinity or a NaN, zero, or a negative operand of a root
+unfoldable pub isSpecial : Format → Op → ℕ → ℕ → Bool
+isSpecial f op s t = leb (infinity f) t || eqb t 0 || eqb s 1 && not (isReciprocal op)
 
 -- NaN: a quiet NaN; a signalling one, whose top fraction bit is 0, also raises invalid
 abbrev pub toNaN : Format → ℕ → Answer

@@ -11,9 +11,9 @@ use Rattle.kinds.specs.declared.Op.{Op}
 use Rattle.kinds.specs.Operation.{isReciprocal}
 use Rattle.kinds.specs.declared.Mode.{Mode}
 use Rattle.ieee.specs.Format.{Format, infinity}
-use Rattle.ieee.specs.Answer.{Answer, toFinite, answerTo}
+use Rattle.ieee.specs.Answer.{Answer, isSpecial, toFinite, answerTo}
 use Rattle.pattern.specs.Operand.{Ordinary}
-use Rattle.special.specs.Special.{isSpecial, specialTo}
+use Rattle.special.specs.Special.{specialTo}
 
 -- an operand that is not special is finite and not zero
 pub ordinary-is : (f : Format) (op : Op) (s t : ℕ) (b : Bool) → b ≡ isSpecial f op s t → b ≡ false → Ordinary f t

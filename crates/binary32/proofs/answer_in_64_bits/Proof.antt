@@ -5,8 +5,8 @@ use Rattle.binary32.proofs.Answers.{answer-special, answer-finite}
 use Rattle.binary32.proofs.answer_in_64_bits.Statement.{statement}
 use Rattle.binary32.proofs.answer_in_64_bits.Tie as tie
 
-split-requires : tie.Need-split-requires
-split-requires c κs = search needs
+fields-requires : tie.Need-fields-requires
+fields-requires c κs = search needs
 
 is-special-requires : tie.Need-is-special-requires
 is-special-requires c κs = search needs
@@ -18,7 +18,7 @@ returns : tie.Need-returns
 returns c = search answer-special
 
 below-requires : tie.Need-below-requires
-below-requires c κs = search ordinary-is
+below-requires c κs = (search ordinary-is, search needs)
 
 round-requires : tie.Need-round-requires
 round-requires c κs = search needs
@@ -30,7 +30,7 @@ pub answer-in-64-bits-spec : {M : Type 1} → statement M
 answer-in-64-bits-spec =
     tie.close
     (tie.spec
-    split-requires
+    fields-requires
     is-special-requires
     special-requires
     returns

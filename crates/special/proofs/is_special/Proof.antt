@@ -1,6 +1,6 @@
 -- `special::is_special` meets its contract: each test is one of the definition. Assumes nothing.
 use borrow.Author.Needs.{needs}
-use Rattle.special.specs.Special.{isSpecial}
+use Rattle.ieee.specs.Answer.{isSpecial}
 use Rattle.special.proofs.is_special.Statement.{statement}
 use Rattle.special.proofs.is_special.Tie as tie
 
