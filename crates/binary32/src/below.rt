@@ -3,7 +3,7 @@ ghost use Rattle.kinds.specs.declared.Op.the-variants.{Reciprocal, Root, Invers
 ghost use Rattle.ieee.specs.Format.{binary32};
 ghost use Rattle.pattern.specs.Parts.{FieldsOf};
 ghost use Rattle.pattern.specs.Operand.{Ordinary};
-ghost use Rattle.binary32.specs.Below.{BelowResult};
+ghost use Rattle.rounding.specs.Neighbour.{BelowResult};
 use kinds::Op;
 use pattern::Width;
 use pattern::operand::scale;
@@ -23,7 +23,7 @@ const INVERSE_ROOT_SCALE: u64 = 3 * 149 - 2 * 25 + 2 * 3;
 
 pub fn below(op: Op, x: Parts) -> Neighbour
     requires { ⌜ Ordinary binary32 (x .unsigned) × FieldsOf binary32 x ⌝ }
-    ensures { λ r. ⌜ BelowResult op (x .unsigned) r ⌝ }
+    ensures { λ r. ⌜ BelowResult binary32 op (x .unsigned) r ⌝ }
 {
     match op {
         Op::Reciprocal => reciprocal(x),
@@ -34,7 +34,7 @@ pub fn below(op: Op, x: Parts) -> Neighbour
 
 fn reciprocal(x: Parts) -> Neighbour
     requires { ⌜ Ordinary binary32 (x .unsigned) × FieldsOf binary32 x ⌝ }
-    ensures { λ r. ⌜ BelowResult Reciprocal (x .unsigned) r ⌝ }
+    ensures { λ r. ⌜ BelowResult binary32 Reciprocal (x .unsigned) r ⌝ }
 {
     let s = scale(Width::Binary32, x);
     let y = s.significand;
@@ -47,7 +47,7 @@ fn reciprocal(x: Parts) -> Neighbour
 // The parity is what is over. Twice the scale is not negative, so that the halving floors: −3 is twice −2 with parity 1.
 fn root(x: Parts) -> Neighbour
     requires { ⌜ Ordinary binary32 (x .unsigned) × FieldsOf binary32 x ⌝ }
-    ensures { λ r. ⌜ BelowResult Root (x .unsigned) r ⌝ }
+    ensures { λ r. ⌜ BelowResult binary32 Root (x .unsigned) r ⌝ }
 {
     let s = scale(Width::Binary32, x);
     let y = s.significand;
@@ -61,7 +61,7 @@ fn root(x: Parts) -> Neighbour
 // The parity is what is added; the halving rounds up.
 fn inverse_root(x: Parts) -> Neighbour
     requires { ⌜ Ordinary binary32 (x .unsigned) × FieldsOf binary32 x ⌝ }
-    ensures { λ r. ⌜ BelowResult InverseRoot (x .unsigned) r ⌝ }
+    ensures { λ r. ⌜ BelowResult binary32 InverseRoot (x .unsigned) r ⌝ }
 {
     let s = scale(Width::Binary32, x);
     let y = s.significand;

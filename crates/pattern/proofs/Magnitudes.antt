@@ -26,6 +26,14 @@ significand-is : (w : Width) (y : ℕ) → 2 ^ formatOf w .fractionBits ≤ y �
 significand-is Binary32 y h k = record { least = h; below = k }
 significand-is Binary64 y h k = record { least = h; below = k }
 
+pub significand-least : (w : Width) (y : ℕ) → Significand (kOf w) (tOf w) y → 2 ^ formatOf w .fractionBits ≤ y
+significand-least Binary32 y h = h .least
+significand-least Binary64 y h = h .least
+
+pub significand-below : (w : Width) (y : ℕ) → Significand (kOf w) (tOf w) y → y < 2 ^ suc (formatOf w .fractionBits)
+significand-below Binary32 y h = h .below
+significand-below Binary64 y h = h .below
+
 -- there are exponents enough
 exponents : (w : Width) → 2 < 2 ^ formatOf w .exponentBits
 exponents Binary32 = lit< tt

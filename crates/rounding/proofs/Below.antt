@@ -16,7 +16,7 @@ use Rattle.ieee.proofs.Rounding.{rounded-is, flags-are}
 use Rattle.pattern.specs.Width.{formatOf}
 use Rattle.pattern.specs.declared.Width.{Width}
 use Rattle.pattern.specs.declared.Width.the-variants.{Binary32, Binary64}
-use Rattle.rounding.specs.Neighbour.{neighbourOf}
+use Rattle.rounding.specs.Neighbour.{neighbourOf, BelowResult}
 use Rattle.rounding.specs.Rounded.{takenFrom, roundedFrom}
 use Rattle.rounding.specs.declared.neighbour.Neighbour.{Neighbour}
 
@@ -38,7 +38,7 @@ module _ (w : Width) (op : Op) where
 
   -- the neighbour, rounded, is the rounded result
   pub rounded-finite : (mode : Mode) (s t : ℕ) (n : Neighbour)
-      → Below (formatOf w) op (magnitudeOf (formatOf w) t) (n .pattern) (n .half) (n .more) (n .beyond)
+      → BelowResult (formatOf w) op t n
       → roundedFrom (formatOf w) mode s n ≡ toFinite (formatOf w) op mode s t
   unfolding roundedFrom
   rounded-finite mode s t n below =

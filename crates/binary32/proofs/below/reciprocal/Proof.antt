@@ -1,6 +1,9 @@
 -- `binary32::below::reciprocal` meets its contract: the raw answer is near, and the floor that it leads to gives the neighbour. Assumes nothing.
 use borrow.Author.Needs.{needs}
-use Rattle.binary32.proofs.Results.{reciprocal-near, reciprocal-small, result-below}
+use Rattle.pattern.specs.declared.Width.the-variants.{Binary32}
+use Rattle.floors.proofs.Reaching.{floored}
+use Rattle.rounding.proofs.Results.{result-below}
+use Rattle.binary32.proofs.Results.{reciprocal-near, reciprocal-small}
 use Rattle.binary32.proofs.below.reciprocal.Statement.{statement}
 use Rattle.binary32.proofs.below.reciprocal.Tie as tie
 
@@ -26,7 +29,7 @@ lower-requires : tie.Need-lower-requires
 lower-requires c κs = (search reciprocal-small, search needs)
 
 returns : tie.Need-returns
-returns c = search result-below
+returns c = search (result-below Binary32, floored)
 
 pub reciprocal-spec : {M : Type 1} → statement M
 reciprocal-spec =

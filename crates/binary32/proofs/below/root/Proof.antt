@@ -1,6 +1,9 @@
 -- `binary32::below::root` meets its contract: the raw answer is near, and the floor that it leads to gives the neighbour. Assumes nothing.
 use borrow.Author.Needs.{needs}
-use Rattle.binary32.proofs.Results.{root-near, root-small, result-below}
+use Rattle.pattern.specs.declared.Width.the-variants.{Binary32}
+use Rattle.floors.proofs.Reaching.{floored}
+use Rattle.rounding.proofs.Results.{result-below}
+use Rattle.binary32.proofs.Results.{root-near, root-small}
 use Rattle.binary32.proofs.below.root.Statement.{statement}
 use Rattle.binary32.proofs.below.root.Tie as tie
 
@@ -29,7 +32,7 @@ lower-requires : tie.Need-lower-requires
 lower-requires c κs = (search root-small, search needs)
 
 returns : tie.Need-returns
-returns c = search result-below
+returns c = search (result-below Binary32, floored)
 
 pub root-spec : {M : Type 1} → statement M
 root-spec =
