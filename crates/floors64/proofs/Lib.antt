@@ -1,2 +1,3 @@
 pub mod Tried
 pub mod Words
+pub mod Cases

@@ -3,10 +3,11 @@
 ghost use mathlib.Core.Path.{_≡_};
 ghost use Prim.Native.Nat.{_≤_, _<_};
 ghost use Rattle.kinds.specs.declared.Op.the-variants.{Reciprocal, Root, InverseRoot};
-ghost use Rattle.significand.specs.Width.{k64, t64, Significand};
+ghost use Rattle.significand.specs.Width.{k64, t64, Significand, Operand};
 ghost use Rattle.significand.specs.Distance.{Near, boundOf};
 ghost use Rattle.ieee.specs.Floor.{targetOf, Floored};
 ghost use Rattle.floors64.specs.Settled.{settledOf};
+use kinds::Op;
 use std::num::wrapping_sub_u64;
 use wide::low_product;
 use wide::low_square_product;
@@ -15,6 +16,18 @@ use wide::low_square_product;
 pub struct Floor {
     pub quotient: u64,
     pub more: bool,
+}
+
+// The floor of each operation's target.
+pub fn floor_of(op: Op, y: u64, p: u64, g: u64) -> Floor
+    requires { ⌜ Operand k64 t64 op y p × Near op k64 t64 y p (boundOf op) g ⌝ }
+    ensures { λ r. ⌜ Floored op y (targetOf 52 op y p) (r .quotient) (r .more) ⌝ }
+{
+    match op {
+        Op::Reciprocal => reciprocal(y, g),
+        Op::Root => root(y, p, g),
+        Op::InverseRoot => inverse_root(y, p, g),
+    }
 }
 
 // What a number's side is above the target, modulo 2^64 or 2^128, is below the half of that where the number is too large.
@@ -38,7 +51,7 @@ fn settled(q: u64, apart: bool, above: bool) -> Floor
 }
 
 // 2^106 / y.
-pub fn reciprocal(y: u64, g: u64) -> Floor
+fn reciprocal(y: u64, g: u64) -> Floor
     requires { ⌜ Significand k64 t64 y × Near Reciprocal k64 t64 y 0 (boundOf Reciprocal) g ⌝ }
     ensures { λ r. ⌜ Floored Reciprocal y (targetOf 52 Reciprocal y 0) (r .quotient) (r .more) ⌝ }
 {
@@ -48,7 +61,7 @@ pub fn reciprocal(y: u64, g: u64) -> Floor
 }
 
 // The root of y × 2^(54 + p).
-pub fn root(y: u64, p: u64, g: u64) -> Floor
+fn root(y: u64, p: u64, g: u64) -> Floor
     requires { ⌜ Significand k64 t64 y × (p ≤ 1) × Near Root k64 t64 y p (boundOf Root) g ⌝ }
     ensures { λ r. ⌜ Floored Root y (targetOf 52 Root y p) (r .quotient) (r .more) ⌝ }
 {
@@ -58,7 +71,7 @@ pub fn root(y: u64, p: u64, g: u64) -> Floor
 }
 
 // The root of 2^(160 − p) / y.
-pub fn inverse_root(y: u64, p: u64, g: u64) -> Floor
+fn inverse_root(y: u64, p: u64, g: u64) -> Floor
     requires { ⌜ Significand k64 t64 y × (p ≤ 1) × Near InverseRoot k64 t64 y p (boundOf InverseRoot) g ⌝ }
     ensures { λ r. ⌜ Floored InverseRoot y (targetOf 52 InverseRoot y p) (r .quotient) (r .more) ⌝ }
 {

@@ -2,3 +2,4 @@ pub mod Shifts
 pub mod Below
 pub mod Results
 pub mod Answers
+pub mod Halving

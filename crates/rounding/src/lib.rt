@@ -1,5 +1,6 @@
 // From a floor with a guard bit to the pattern below the exact result, and from there to the rounded pattern and its flags.
 pub mod neighbour;
+pub mod scales;
 
 ghost use mathlib.Core.Path.{_≡_};
 ghost use mathlib.Core.Bool.{cond};
