@@ -68,6 +68,7 @@ div-zero-lt n d some e = omega (arith, lt-mul-div-succ n some, ap (λ (q : ℕ).
 module _ (w : Width) (x : Parts) (c : Constants) (k : ConstantsOf (formatOf w) c) (o : Ordinary (formatOf w) (x .unsigned)) (d : FieldsOf (formatOf w) x) where
   abbrev t : ℕ
   t = x .unsigned
+
   -- what is worked from the operand fits a word
   whole : t < 2 ^ 64
   whole = omega (arith, k, o .finite)

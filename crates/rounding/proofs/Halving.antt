@@ -8,18 +8,33 @@ use Rattle.ieee.specs.Format.{Format}
 use Rattle.rounding.specs.Scales.{ScalesFrom, ScalesOf}
 use Rattle.rounding.specs.declared.scales.FirstScales.{FirstScales}
 
-module _ (f : Format) (j : ℕ) (first : FirstScales) (h : ScalesFrom f first) (op : Op) where
+module _ (f : Format) (j : ℕ) (first : FirstScales) (h : ScalesFrom f first) (few : j + 2 < 2 ^ f .exponentBits + f .fractionBits) (op : Op) where
   pub reciprocal-scales : op ≡ Reciprocal → ScalesOf f op j (record { scale = first .reciprocal - j; parity = 0 })
-  reciprocal-scales o = rw (o, h .reciprocal-is) (record { scale-is = refl; parity-is = refl; one-bit = omega arith; even = λ e. refl })
+  reciprocal-scales o =
+      record { scale-is = rw (o, h .reciprocal-is); parity-is = rw o; one-bit = omega arith; even = λ e. refl; small = omega arith }
 
   pub root-scales : op ≡ Root → ScalesOf f op j (record { scale = (j + first .root) / 2; parity = (j + first .root) % 2 })
-  root-scales o = rw (o, h .root-is) (record { scale-is = refl; parity-is = refl; one-bit = omega arith; even = λ e. absurd (differ e) })
+  root-scales o =
+      record {
+        scale-is = rw (o, h .root-is);
+        parity-is = rw (o, h .root-is);
+        one-bit = omega arith;
+        even = λ e. absurd (differ (sym o ∙ e));
+        small = omega arith;
+      }
     where
       differ : Root ≡ Reciprocal → ⊥
       differ e = let z : _≡_ {A = ℕ} 0 1 = cc in omega arith
 
   pub inverse-scales : op ≡ InverseRoot → ScalesOf f op j (record { scale = (first .inverse - j + 1) / 2; parity = (first .inverse - j) % 2 })
-  inverse-scales o = rw (o, h .inverse-is) (record { scale-is = refl; parity-is = refl; one-bit = omega arith; even = λ e. absurd (differ e) })
+  inverse-scales o =
+      record {
+        scale-is = rw (o, h .inverse-is);
+        parity-is = rw (o, h .inverse-is);
+        one-bit = omega arith;
+        even = λ e. absurd (differ (sym o ∙ e));
+        small = omega arith;
+      }
     where
       differ : InverseRoot ≡ Reciprocal → ⊥
       differ e = let z : _≡_ {A = ℕ} 0 1 = cc in omega arith

@@ -52,7 +52,7 @@ module _ (w : Width) (t : ℕ) (s : Scaled) (h : Scaling w (magnitudeOf (formatO
         h .is,
         ap (λ (n : ℕ). n * 2 ^ formatOf w .fractionBits) none,
         mul-pos {m = s .significand} {n = 2 ^ s .exponent}
-        (omega (arith, significand-least w (s .significand) (h .significand), pow-pos (formatOf w .fractionBits))) (pow-pos (s .exponent)),
+            (omega (arith, significand-least w (s .significand) (h .significand), pow-pos (formatOf w .fractionBits))) (pow-pos (s .exponent)),
       )))
 
   -- the floor at its scale gives the pattern below the exact result

@@ -1,0 +1,3 @@
+pub mod Call
+pub mod Found
+pub mod Tried
