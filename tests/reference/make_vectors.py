@@ -105,7 +105,7 @@ SIGN = 0x80000000
 def operand(significand, exponent):
     """The pattern of significand * 2**exponent, which must be a number."""
     wanted = significand * Fraction(2)**exponent
-    low, high = 0, plate.POSITIVE_INFINITY
+    low, high = 0, plate.infinity(plate.BINARY32)
     while high - low > 1:
         middle = (low + high) // 2
         if plate.value(middle) <= wanted:
