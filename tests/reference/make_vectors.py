@@ -47,6 +47,7 @@ import struct
 import sys
 from array import array
 from fractions import Fraction
+from math import isqrt
 from pathlib import Path
 
 sys.dont_write_bytecode = True
@@ -264,6 +265,19 @@ def wrong_entries(m):
             2**64 - m, 2**63 - m, 2**62 - m, m + 2**32, m - 2**32, 2**63, 2**64 - 1]
 
 
+def wrapped_entries(operation, y, p):
+    """Entries that nearly keep the rule where its products are cut to 128 bits, or its
+    squares to 64."""
+    r, _, _ = plate.reduction(y, plate.BINARY64)
+    n, d = plate.exact_square(operation, r, p, plate.BINARY64)
+    for c in (-100, -1, 1, 255, 10000):
+        entry = isqrt((n + c * 2**128) // d)
+        yield from (entry, entry + 1)
+    for c in (-1000, -1, 1, 1000):
+        entry = isqrt(n // d + c * 2**64)
+        yield from (entry, entry + 1)
+
+
 def raw64_calls():
     """length, place, entry, operation, significand, parity"""
     chance = random.Random("raw64")
@@ -327,7 +341,13 @@ def raw64_calls():
                 if other != place and other >= 0:
                     yield (ENTRIES, min(other, ENTRIES), chance.choice(wrong_entries(m)) % 2**64,
                            operation, y, p)
-        # Each bit of an entry, and the entries of the other places.
+        for y in (2**53 - 1, some_y(), some_y()):
+            for entry in wrapped_entries(operation, y, p):
+                yield ENTRIES, plate.entry_place(operation, y, p), entry, operation, y, p
+        # Where R is a power of two, each power of two; elsewhere each bit of an entry,
+        # and the entries of other places.
+        for bit in range(64):
+            yield ENTRIES, plate.entry_place(operation, 2**52, p), 1 << bit, operation, 2**52, p
         y = some_y()
         place, m = plate.entry_place(operation, y, p), right_entry(operation, y, p)
         for bit in range(64):
