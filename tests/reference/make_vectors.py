@@ -476,8 +476,8 @@ def binary64_calls():
         # Also where the bits are read without normalizing, and by the other parity.
         field, fraction = bits >> 52, bits % 2**52
         unread = (operation - 2) * 65536 + field % 2 * 32768 + (fraction >> 37)
-        for other in {place ^ 32768, place ^ 65536, place ^ 1, unread, unread ^ 32768, 0,
-                      ENTRIES - 1, chance.randrange(ENTRIES)} - {place}:
+        for other in sorted({place ^ 32768, place ^ 65536, place ^ 1, unread, unread ^ 32768, 0,
+                             ENTRIES - 1, chance.randrange(ENTRIES)} - {place}):
             yield (ENTRIES, other, chance.choice(wrong_entries(m)) % 2**64, operation,
                    chance.randrange(4), bits, status())
     # Special operands skip the entry, not the length.
