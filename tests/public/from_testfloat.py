@@ -13,7 +13,7 @@ import sys
 sys.dont_write_bytecode = True
 
 import vectors
-from vectors import RECIPROCAL, ROOT
+from vectors import BINARY32, RECIPROCAL, ROOT
 
 ROUNDINGS = {"-rnear_even": vectors.NEAREST, "-rmax": vectors.UP, "-rmin": vectors.DOWN,
              "-rminMag": vectors.TOWARD_ZERO}
@@ -34,7 +34,7 @@ def generated(program, rounding, function):
 
 def kept(operation, rounding, bits):
     """A negative number's root is the same NaN in each rounding: nearest does."""
-    return operation == RECIPROCAL or rounding == vectors.NEAREST or bits <= vectors.SIGN
+    return operation == RECIPROCAL or rounding == vectors.NEAREST or bits <= BINARY32.sign
 
 
 ABOUT = [
@@ -47,7 +47,7 @@ ABOUT = [
 def main():
     if len(sys.argv) != 3:
         sys.exit("usage: from_testfloat.py PROGRAM PACKAGE")
-    lines = vectors.Lines()
+    lines = vectors.Lines(BINARY32)
     for option, rounding in ROUNDINGS.items():
         calls = [(RECIPROCAL, b, answer, flags)
                  for a, b, answer, flags in generated(sys.argv[1], option, "f32_div") if a == ONE]
@@ -56,7 +56,7 @@ def main():
             if kept(operation, rounding, bits):
                 raised = sum(flag for bit, flag in FLAGS.items() if flags & bit)
                 lines.add(operation, rounding, bits, 0, answer, raised)
-    lines.write("softfloat.txt", ["From Berkeley TestFloat and SoftFloat 3e in Debian's %s:" % sys.argv[2]] + ABOUT)
+    lines.write("softfloat", ["From Berkeley TestFloat and SoftFloat 3e in Debian's %s:" % sys.argv[2]] + ABOUT)
 
 
 if __name__ == "__main__":

@@ -12,6 +12,19 @@ call_vectors      stdin  r operation significand parity
                   stdout refusal bits status
                   bits are 8 upper-case hexadecimal digits; the lines of
                   tests/public/*.txt stand last, with their published answers
+binary64_vectors  stdin  t LENGTH
+                  stdout refusal digest
+                  stdin  r LENGTH PLACE ENTRY operation significand parity
+                  stdout refusal answer
+                  stdin  b LENGTH PLACE ENTRY operation rounding bits status
+                  stdout refusal bits status
+                  significands, bits and answers are 16 upper-case hexadecimal
+                  digits, ENTRY the same without leading zeros. t fills the first
+                  LENGTH of 131,073 numbers, of which number j holds 7j + 3 before;
+                  digest() is taken over all of them after it. r and b are lent the
+                  first LENGTH of 131,073 numbers: the four tables and a 0, but with
+                  ENTRY at PLACE; PLACE 131073 changes none. The binary64 lines of
+                  tests/public/*.txt stand last, with their published answers
 list_vectors      stdin  binary frames: u32 length of the map, u32 length of the
                   buffer, both little-endian, then the map
                   stdout refusal length digest, ten lines for each frame: the
@@ -32,7 +45,9 @@ import itertools
 import random
 import struct
 import sys
+from array import array
 from fractions import Fraction
+from math import isqrt
 from pathlib import Path
 
 sys.dont_write_bytecode = True
@@ -102,26 +117,30 @@ CLASSES = [
 SIGN = 0x80000000
 
 
-def operand(significand, exponent):
+def operand(significand, exponent, width=plate.BINARY32):
     """The pattern of significand * 2**exponent, which must be a number."""
     wanted = significand * Fraction(2)**exponent
-    low, high = 0, plate.POSITIVE_INFINITY
+    low, high = 0, plate.infinity(width)
     while high - low > 1:
         middle = (low + high) // 2
-        if plate.value(middle) <= wanted:
+        if plate.value(middle, width) <= wanted:
             low = middle
         else:
             high = middle
-    assert plate.value(low) == wanted
+    assert plate.value(low, width) == wanted
     return low
+
+
+def some_status(chance):
+    return chance.choice((0, 0, 1, 2, 4, 8, 16, 31, 32, 64, 128, 224, 255,
+                          chance.randrange(32), chance.randrange(256)))
 
 
 def binary32_calls():
     chance = random.Random("binary32")
 
     def status():
-        return chance.choice((0, 0, 1, 2, 4, 8, 16, 31, 32, 64, 128, 224, 255,
-                              chance.randrange(32), chance.randrange(256)))
+        return some_status(chance)
 
     def in_all(bits, operations=(1, 2, 3), roundings=(0, 1, 2, 3)):
         for operation in operations:
@@ -191,6 +210,337 @@ def call_files():
         given.append("b %d %d %08X %d\n" % call)
         expected.append("%d %08X %d\n" % answer)
     assert sum(map(len, given)) <= CALL_ROOM
+    return "".join(given).encode(), "".join(expected).encode()
+
+
+# ---------------------------------------------------------------- binary64
+
+ENTRIES = plate.ENTRIES                         # 131,072
+WHOLE = ENTRIES, ENTRIES + 1, 0                 # length, place, entry: the tables as they are
+ROOTS = (2, 0), (2, 1), (3, 0), (3, 1)          # operation and parity, in the tables' order
+ALL64 = ((1, 0), *ROOTS)
+SMALLEST64, LARGEST64 = 2**52, 2**53 - 1        # significands
+SIGN64 = 2**63
+
+CLASSES64 = [
+    0x0000000000000000,                                             # zero
+    0x0000000000000001, 0x0000000000000002, 0x0000000000000003,     # subnormals
+    0x00000000000000FF, 0x0000000100000000, 0x00000001FFFFFFFF,
+    0x0003FFFFFFFFFFFF, 0x0004000000000000, 0x0004000000000001,     # where 1/x overflows
+    0x0007FFFFFFFFFFFF, 0x0008000000000000, 0x0008000000000001,
+    0x000FFFFFFFFFFFFE, 0x000FFFFFFFFFFFFF,
+    0x0010000000000000, 0x0010000000000001,                         # smallest normals
+    0x001FFFFFFFFFFFFF, 0x0020000000000000,
+    0x3CB0000000000000, 0x3FD5555555555555, 0x3FEFFFFFFFFFFFFE,
+    0x3FEFFFFFFFFFFFFF, 0x3FF0000000000000, 0x3FF0000000000001,     # around one
+    0x3FF0000000000002, 0x3FFFFFFFFFFFFFFF,
+    0x4000000000000000, 0x4000000000000001, 0x4008000000000000,
+    0x400921FB54442D18, 0x400FFFFFFFFFFFFF, 0x4010000000000000,
+    0x433FFFFFFFFFFFFF, 0x4340000000000000,
+    0x7FCFFFFFFFFFFFFF, 0x7FD0000000000000, 0x7FD0000000000001,     # where 1/x underflows
+    0x7FDFFFFFFFFFFFFF, 0x7FE0000000000000, 0x7FE0000000000001,
+    0x7FEFFFFFFFFFFFFE, 0x7FEFFFFFFFFFFFFF,
+    0x7FF0000000000000,                                             # infinity
+    0x7FF0000000000001, 0x7FF5A5A5A5A5A5A5, 0x7FF7FFFFFFFFFFFF,     # signalling NaNs
+    0x7FF8000000000000, 0x7FF8000000000001, 0x7FFDEAD000000000, 0x7FFFFFFFFFFFFFFF,
+]
+
+
+def right_entry(operation, y, p):
+    r, _, _ = plate.reduction(y, plate.BINARY64)
+    return plate.multiplier(operation, r, p, plate.BINARY64)
+
+
+def used_place(operation, y, p):
+    """The place that a root uses, and some place for a call that uses none."""
+    if operation in (2, 3) and p in (0, 1) and SMALLEST64 <= y <= LARGEST64:
+        return plate.entry_place(operation, y, p)
+    return (operation * 65536 + p * 32768 + y) % ENTRIES
+
+
+def wrong_entries(m):
+    """Entries that break the rule where m keeps it; among them some whose square is
+    that of m in its lower bits."""
+    return [m - 1, m + 1, m - 2, m + 2, 0, 1, 2 * m, m // 2, m + 2**62, m + 2**63,
+            2**64 - m, 2**63 - m, 2**62 - m, m + 2**32, m - 2**32, 2**63, 2**64 - 1]
+
+
+def wrapped_entries(operation, y, p):
+    """Entries that nearly keep the rule where its products are cut to 128 bits, or its
+    squares to 64."""
+    r, _, _ = plate.reduction(y, plate.BINARY64)
+    n, d = plate.exact_square(operation, r, p, plate.BINARY64)
+    for c in (-100, -1, 1, 255, 10000):
+        entry = isqrt((n + c * 2**128) // d)
+        yield from (entry, entry + 1)
+    for c in (-1000, -1, 1, 1000):
+        entry = isqrt(n // d + c * 2**64)
+        yield from (entry, entry + 1)
+
+
+def raw64_calls():
+    """length, place, entry, operation, significand, parity"""
+    chance = random.Random("raw64")
+
+    def some_y():
+        return chance.randint(SMALLEST64, LARGEST64)
+
+    # The edges, a middle, and what is refused next to the edges.
+    for operation, p in ALL64:
+        for y in (2**52, 2**52 + 1, 3 * 2**51, 2**53 - 1, 2**52 - 1, 2**53):
+            yield *WHOLE, operation, y, p
+    # Both edges of intervals of i, the first and the last of each table among them.
+    some = [*range(32768, 32772), *range(65532, 65536), 40960, 46340, 46341, 49151, 49152,
+            *(chance.randrange(32768, 65536) for _ in range(40))]
+    for operation, p in ALL64:
+        for i in some:
+            yield *WHOLE, operation, i * 2**37, p
+            yield *WHOLE, operation, i * 2**37 + 2**37 - 1, p
+    # The last y with d below 0, the first with d not below, and the next.
+    for i in (32768, 32769, 65535, *(chance.randrange(32768, 65536) for _ in range(150))):
+        first = -(-2**68 // (2**31 // i))
+        for y in (first - 1, first, first + 1):
+            if y // 2**37 == i:
+                operation, p = chance.choice(ALL64)
+                yield *WHOLE, operation, y, p
+    # Digits of a that are 0 or all ones, as near as a significand comes to them.
+    for i in (32768, *(chance.randrange(32768, 65536) for _ in range(60))):
+        r = 2**31 // i
+        for s in (-1, 1):
+            reach = abs((i + (s == 1)) * 2**37 * r - 2**68) // 256
+            a2 = chance.choice((0, 1, reach >> 30, chance.randrange((reach >> 30) + 1)))
+            a = a2 << 30 | chance.choice((0, 32767)) << 15 | chance.choice((0, 32767))
+            y = (2**68 + s * 256 * a) // r + chance.randrange(2)
+            if y // 2**37 == i:
+                operation, p = chance.choice(ALL64)
+                yield *WHOLE, operation, y, p
+    # Refusals alone and together, in every order.
+    for operation, y, p in itertools.product(
+            (0, 1, 2, 3, 4, 255), (2**52 - 1, 2**52, 2**53 - 1, 2**53), (0, 1, 2, 255)):
+        for length in (0, 131071, 131072, 131073):
+            yield length, ENTRIES + 1, 0, operation, y, p
+        yield ENTRIES, used_place(operation, y, p), chance.choice((0, 2**64 - 1)), operation, y, p
+        yield 131071, used_place(operation, y, p), chance.choice((0, 1)), operation, y, p
+    for _ in range(300):
+        operation = chance.choice((0, 1, 2, 3, 4, 5, 127, 128, 129, 130, 255))
+        y = chance.choice((0, 1, 8388608, 16777215, 2**52 - 1, 2**52, 2**53 - 1, 2**53,
+                           2**53 + 2**52, 2**63, 2**63 + 2**52, 2**64 - 1))
+        p = chance.choice((0, 1, 2, 3, 128, 129, 254, 255))
+        length = chance.choice((0, 1, 32768, 65536, 131071, 131072, 131072, 131073))
+        place, entry = chance.choice(((ENTRIES + 1, 0), (used_place(operation, y, p), 5)))
+        yield length, place, entry, operation, y, p
+    # A wrong entry at the place used, and the same one elsewhere.
+    for operation, p in ROOTS:
+        for y in (2**52, 2**53 - 1, *(some_y() for _ in range(8))):
+            place, m = plate.entry_place(operation, y, p), right_entry(operation, y, p)
+            yield ENTRIES, place, m, operation, y, p
+            for entry in wrong_entries(m):
+                yield ENTRIES, place, entry % 2**64, operation, y, p
+            for other in (place - 1, place + 1, place - 32768, place + 32768, place ^ 32768,
+                          0, ENTRIES - 1, ENTRIES, chance.randrange(ENTRIES)):
+                if other != place and other >= 0:
+                    yield (ENTRIES, min(other, ENTRIES), chance.choice(wrong_entries(m)) % 2**64,
+                           operation, y, p)
+        for y in (2**53 - 1, some_y(), some_y()):
+            for entry in wrapped_entries(operation, y, p):
+                yield ENTRIES, plate.entry_place(operation, y, p), entry, operation, y, p
+        # Where R is a power of two, each power of two; elsewhere each bit of an entry,
+        # and the entries of other places.
+        for bit in range(64):
+            yield ENTRIES, plate.entry_place(operation, 2**52, p), 1 << bit, operation, 2**52, p
+        y = some_y()
+        place, m = plate.entry_place(operation, y, p), right_entry(operation, y, p)
+        for bit in range(64):
+            yield ENTRIES, place, m ^ 1 << bit, operation, y, p
+        for other in ROOTS:
+            yield ENTRIES, place, right_entry(other[0], y, other[1]), operation, y, p
+        for other in range(max(y - 2**38, 2**52), min(y + 2**38, 2**53), 2**37):
+            yield ENTRIES, place, right_entry(operation, other, p), operation, y, p
+    # Every length but the right one, with entries that would be right.
+    for length in (0, 1, 2, 32767, 32768, 65535, 65536, 98304, 131070, 131071, 131073):
+        for operation, p in ROOTS:
+            yield length, ENTRIES + 1, 0, operation, chance.choice((2**52, some_y())), p
+    # The reciprocal looks at no slice.
+    for _ in range(60):
+        yield (chance.choice((0, 0, 1, 131071, 131072, 131073)), chance.randrange(ENTRIES),
+               chance.randrange(2**64), 1, some_y(), chance.choice((0, 0, 0, 1)))
+    # Random significands, and random everything.
+    for operation, p in ALL64:
+        for _ in range(200):
+            yield *WHOLE, operation, some_y(), p
+    for _ in range(100):
+        yield (chance.choice((ENTRIES, chance.randrange(ENTRIES + 2))),
+               chance.randrange(ENTRIES + 2), chance.randrange(2**64), chance.randrange(5),
+               chance.choice((some_y(), chance.randrange(2**64))), chance.randrange(3))
+
+
+def binary64_calls():
+    """length, place, entry, operation, rounding, bits, status"""
+    chance = random.Random("binary64")
+
+    def status():
+        return some_status(chance)
+
+    def lent(operation):
+        """Mostly the tables as they are; the reciprocal takes any slice."""
+        if chance.randrange(8):
+            return WHOLE
+        if operation == 1:
+            return chance.choice(((0, ENTRIES + 1, 0), (131071, 3, 5), (ENTRIES, 0, 0)))
+        return ENTRIES, ENTRIES, chance.randrange(2**64)        # behind the slice
+
+    def call(operation, bits, rounding=None):
+        if rounding is None:
+            rounding = chance.randrange(4)
+        return *lent(operation), operation, rounding, bits, status()
+
+    def in_all(bits, operations=(1, 2, 3), roundings=(0, 1, 2, 3)):
+        for operation in operations:
+            for rounding in roundings:
+                yield call(operation, bits, rounding)
+
+    def pattern(significand, exponent):
+        return operand(significand, exponent, plate.BINARY64)
+
+    def used(operation, bits):
+        """The place used and its entry; of the operand's magnitude where it is negative,
+        and of its fraction where it is no finite number."""
+        magnitude = bits % SIGN64
+        if plate.uses_entry(2, magnitude):
+            y, p = plate.normalized(plate.value(magnitude, plate.BINARY64))
+        else:
+            y, p = 2**52 + bits % 2**52, 0
+        return plate.entry_place(operation, y, p), right_entry(operation, y, p)
+
+    # Every class, both signs.
+    for bits in CLASSES64:
+        yield from in_all(bits)
+        yield from in_all(bits | SIGN64)
+    # Powers of two at every exponent.
+    for exponent in range(-1074, 1024):
+        bits = pattern(1, exponent)
+        yield call(1, bits)
+        yield call(2 + exponent // 2 % 2, bits)
+    for exponent in (*range(-1074, -1070), *range(-1025, -1020), -2, -1, 0, 1, 2,
+                     *range(1020, 1024)):
+        yield from in_all(pattern(1, exponent))
+        yield from in_all(pattern(1, exponent) | SIGN64, operations=(1,))
+    # Around powers of two.
+    for exponent in range(-1060, 1024, 40):
+        for bits in (pattern(1, exponent) - 1, pattern(1, exponent) + 1):
+            for operation in (1, 2, 3):
+                yield call(operation, bits)
+    # Whole squares times powers of four: the root's lower and upper agree.
+    # Their neighbours and their doubles do not.
+    for _ in range(120):
+        n = chance.choice((chance.randrange(1, 64), chance.randrange(1, 2**26),
+                           chance.randrange(2**26, 94906266)))
+        exponent = 2 * chance.randrange(-537, 485)
+        bits = pattern(n * n, exponent)
+        yield from in_all(bits, operations=(2,), roundings=(1, 2))
+        yield call(2, bits, chance.choice((0, 3)))
+        yield call(2, bits + chance.choice((-1, 1)))
+        yield call(2, pattern(2 * n * n, exponent))
+        yield call(3, bits)
+    # The hard operands, as searched, then at other exponents.
+    for line in (HERE / "hard_cases64.txt").read_text().splitlines():
+        operation, bits = int(line.split()[0]), int(line.split()[1], 16)
+        yield from in_all(bits, operations=(operation,))
+        exponent = bits >> 52
+        if exponent < 1100:
+            bits += 2 * chance.randrange(-510, 510) << 52
+        yield call(operation, bits | (SIGN64 if operation == 1 else 0), 0)
+    # Refusals alone and together, in every order. They keep every bit of the status.
+    for operation, rounding in itertools.product((0, 1, 2, 3, 4, 255), (0, 3, 4, 255)):
+        for bits in (0x4008000000000000, chance.choice(CLASSES64), chance.randrange(2**64)):
+            place, _ = used(operation if operation in (2, 3) else 2, bits)
+            for length in (0, 131071, 131072, 131073):
+                yield length, ENTRIES + 1, 0, operation, rounding, bits, status()
+            yield ENTRIES, place, chance.choice((0, 2**64 - 1)), operation, rounding, bits, 255
+            yield 131073, place, 1, operation, rounding, bits, 224
+    for operation in (5, 127, 128, 129, 130, 254):
+        yield *WHOLE, operation, chance.randrange(6), chance.choice(CLASSES64), status()
+    for rounding in (5, 127, 128, 130, 254):
+        yield *WHOLE, chance.randint(1, 3), rounding, chance.choice(CLASSES64), status()
+    # A wrong entry at the place used, and the same one elsewhere: of normal numbers with
+    # even and odd exponents of either sign, and of subnormal ones.
+    operands = [0x3FF0000000000000, 0x4000000000000000, 0x3FEFFFFFFFFFFFFF, 0x3FDFFFFFFFFFFFFF,
+                0x0010000000000000, 0x000FFFFFFFFFFFFF, 0x0000000000000001, 0x0000000000000002,
+                0x7FEFFFFFFFFFFFFF, *(chance.randrange(0x7FF0000000000000) for _ in range(4)),
+                *(chance.randrange(1, 2**shift) for shift in (52, 48, 37, 30))]
+    for operation, bits in itertools.product((2, 3), operands):
+        place, m = used(operation, bits)
+        yield ENTRIES, place, m, operation, chance.randrange(4), bits, status()
+        for entry in wrong_entries(m):
+            yield ENTRIES, place, entry % 2**64, operation, chance.randrange(4), bits, status()
+        # Also where the bits are read without normalizing, and by the other parity.
+        field, fraction = bits >> 52, bits % 2**52
+        unread = (operation - 2) * 65536 + field % 2 * 32768 + (fraction >> 37)
+        for other in sorted({place ^ 32768, place ^ 65536, place ^ 1, unread, unread ^ 32768, 0,
+                             ENTRIES - 1, chance.randrange(ENTRIES)} - {place}):
+            yield (ENTRIES, other, chance.choice(wrong_entries(m)) % 2**64, operation,
+                   chance.randrange(4), bits, status())
+    # Special operands skip the entry, not the length.
+    special = [0, *(bits for bits in CLASSES64 if bits >= 0x7FF0000000000000),
+               *(bits | SIGN64 for bits in CLASSES64[::3])]
+    for operation, bits in itertools.product((2, 3), special):
+        place, m = used(operation, bits)
+        for other in (place, place ^ 32768, (operation - 2) * 65536):
+            yield (ENTRIES, other, chance.choice(wrong_entries(m)) % 2**64, operation,
+                   chance.randrange(4), bits, status())
+        for length in (0, 131071, 131073):
+            yield length, ENTRIES + 1, 0, operation, chance.randrange(4), bits, status()
+    # The reciprocal with the empty slice.
+    for _ in range(60):
+        yield (0, chance.randrange(ENTRIES), chance.randrange(2**64), 1, chance.randrange(4),
+               chance.choice((chance.choice(CLASSES64), chance.randrange(2**64))), status())
+    # Random patterns, some of them subnormal, some with short fractions.
+    for _ in range(300):
+        yield call(chance.randint(1, 3), chance.randrange(2**64))
+        yield call(chance.randint(1, 3), chance.randrange(SIGN64))
+    for _ in range(100):
+        yield call(chance.randint(1, 3), chance.randrange(2**chance.randint(1, 52)))
+        yield call(chance.randint(1, 3), chance.randrange(SIGN64) >> 46 << 46)
+    for _ in range(100):
+        yield call(1, chance.randrange(0x7FD0000000000000, 0x7FF0000000000000))
+        yield call(1, chance.randrange(1, 0x0008000000000000) | SIGN64)
+    for _ in range(100):
+        yield (chance.choice((ENTRIES, chance.randrange(ENTRIES + 2))),
+               chance.randrange(ENTRIES + 2), chance.randrange(2**64), chance.randrange(5),
+               chance.randrange(5), chance.randrange(2**64), chance.randrange(256))
+
+
+BINARY64_ROOM = 1000000         # the program binary64_vectors is given fewer bytes
+
+
+def binary64_files():
+    given, expected = [], []
+    before = [7 * j + 3 for j in range(ENTRIES + 1)]
+    for length in (0, 1, 32768, 131071, 131072, 131073):
+        refusal, after = plate.fill_tables(before[:length])
+        given.append("t %d\n" % length)
+        expected.append("%d %d\n" % (refusal, digest(after + before[length:])))
+
+    numbers = array("Q", plate.all_tables() + [0])
+
+    def lending(call, length, place, entry, *others):
+        """The answer of a call that is lent a slice."""
+        if place > ENTRIES:
+            return call(*others, memoryview(numbers)[:length])
+        kept, numbers[place] = numbers[place], entry
+        answer = call(*others, memoryview(numbers)[:length])
+        numbers[place] = kept
+        return answer
+
+    for call in raw64_calls():
+        given.append("r %d %d %X %d %016X %d\n" % call)
+        expected.append("%d %016X\n" % lending(plate.raw64, *call))
+    answered = [(call, lending(plate.binary64, *call)) for call in binary64_calls()]
+    public = [((*WHOLE, *call), answer) for call, answer in vectors.published64()]
+    for call, answer in answered + public:
+        given.append("b %d %d %X %d %d %016X %d\n" % call)
+        expected.append("%d %016X %d\n" % answer)
+    assert sum(map(len, given)) < BINARY64_ROOM
     return "".join(given).encode(), "".join(expected).encode()
 
 
@@ -855,8 +1205,9 @@ def main():
     if sys.argv[1:] and not check:
         sys.exit("usage: make_vectors.py [--check]")
     differing = 0
-    for name, files in (("call_vectors", call_files), ("list_vectors", list_files),
-                        ("record_vectors", record_files), ("platelist", platelist_files)):
+    for name, files in (("call_vectors", call_files), ("binary64_vectors", binary64_files),
+                        ("list_vectors", list_files), ("record_vectors", record_files),
+                        ("platelist", platelist_files)):
         for file, content in zip(("stdin", "stdout"), files()):
             path = CRATES / name / file
             if check:

@@ -4,11 +4,17 @@ Whole numbers and fractions only, no floats. It is written to be laid beside
 the documents, not to be fast. The order is document 01's: raw unit, binary32
 unit, map and list, questions at the door, the program platelist. Of document
 02 it has requests #101, the reader, #102, the rounding in the list, and #104,
-the lifted list, which stand with the list, and #105, the nearest M, which stands
-in step 4 of the raw unit.
+the lifted list, which stand with the list, #105, the nearest M, which stands
+in step 4 of the raw unit, and #106, binary64, which stands with the raw unit and
+behind the binary32 unit. The steps and the rounding are written once, for both
+widths.
 
     raw(operation, significand, parity)            -> (refusal, answer)
+    fill_tables(lent)                              -> (refusal, lent)
+    raw64(operation, significand, parity, lent)    -> (refusal, answer)
     binary32(operation, rounding, bits, status)    -> (refusal, bits, status)
+    binary64(operation, rounding, bits, status, lent)
+                                                   -> (refusal, bits, status)
     cutter_list(rounding, map_bytes, buffer_bytes) -> (refusal, length, buffer)
     lifted_list(rounding, map_bytes, buffer_bytes) -> (refusal, length, buffer)
     record(list_bytes, index)                      -> (refusal, rounding, w, d,
@@ -23,6 +29,7 @@ Run as a program it is platelist: python3 plate.py < map
 import sys
 from fractions import Fraction
 from math import isqrt
+from typing import NamedTuple
 
 # Operations
 RECIPROCAL, ROOT, INVERSE_ROOT = 1, 2, 3
@@ -35,28 +42,56 @@ INVALID, DIVISION_BY_ZERO, OVERFLOW, UNDERFLOW, INEXACT = 1, 2, 4, 8, 16
 ALL_FLAGS = 31
 
 
-# ---------------------------------------------------------------- Raw unit
+class Width(NamedTuple):
+    """A format's bits of exponent and of fraction, and the k of its raw steps."""
+    exponent_bits: int
+    fraction_bits: int
+    k: int
 
-def reduction(y):
-    """Steps 1 and 2: R, s and a of a significand."""
-    i = y // 2**16
-    r = 32768 // i
-    d = y * r - 2**31
+
+BINARY32 = Width(8, 23, 7)
+BINARY64 = Width(11, 52, 15)
+
+
+# ---------------------------------------------------------------- Raw unit
+#
+# The powers of two are document 01's at k = 7 with 23 fraction bits. #106 prints
+# some of them at k = 15 with 52.
+
+def interval(y, width):
+    """Step 1: i, the first k + 1 bits of a significand."""
+    return y // 2**(width.fraction_bits - width.k)
+
+
+def interval_reciprocal(i, width):
+    """Step 1: R."""
+    return 2**(2*width.k + 1) // i
+
+
+def reduction(y, width=BINARY32):
+    """Steps 1 and 2: R, s and a of a significand. a counts units of 2**-4k."""
+    k, t = width.k, width.fraction_bits
+    r = interval_reciprocal(interval(y, width), width)
+    d = y * r - 2**(t + k + 1)
     s = 1 if d >= 0 else -1
-    a = abs(d) // 8
+    a = abs(d) // 2**(t + 1 - 3*k)
     return r, s, a
 
 
-def series(operation, s, a):
+def series(operation, s, a, width=BINARY32):
     """The digits of step 2 and the b of step 3. Python's // floors."""
-    a2 = a // 128**2
-    a3 = a // 128 % 128
-    h = a2**2 // 128
+    one = 2**(4*width.k)
+    digit = 2**width.k
+    a2 = a // digit**2
+    a3 = a // digit % digit
+    h = a2**2 // digit
     if operation == RECIPROCAL:
-        return (128 * (2**28 - s*a + a2**2) + 2*a2*a3 - s*h*a2) // 128
+        return (digit * (one - s*a + a2**2) + 2*a2*a3 - s*h*a2) // digit
     if operation == ROOT:
-        return (2**39 + 1024*s*a - 256*a2**2 - 4*a2*a3 + s*h*a2) // 2048
-    return (2**39 - 1024*s*a + 768*a2**2 + 12*a2*a3 - 5*s*h*a2) // 2048
+        terms = digit * (16*one + 8*s*a - 2*a2**2) - 4*a2*a3 + s*h*a2
+    else:
+        terms = digit * (16*one - 8*s*a + 6*a2**2) + 12*a2*a3 - 5*s*h*a2
+    return terms // (16*digit)
 
 
 def nearest_root(n, d):
@@ -68,45 +103,120 @@ def nearest_root(n, d):
     return low + (middle < 4*n)
 
 
-def multiplier(operation, r, p):
-    """Step 4: M. Since #105 M of both roots is the whole number nearest to the exact
-    one, whose square document 01 gives by w*w*R = 2**(64+p) and w*w*2**(8+p) = R*2**56."""
-    if operation == RECIPROCAL:
-        return r * 2**20
+def exact_square(operation, r, p, width):
+    """The square of a root's exact M, as two whole numbers n and d for n / d. At k = 7
+    document 01 gives it by w*w*R = 2**(64+p) and w*w*2**(8+p) = R*2**56."""
+    k = width.k
     if operation == ROOT:
-        return nearest_root(2**(64 + p), r)
-    return nearest_root(r * 2**56, 2**(8 + p))
+        return 2**(9*k + 1 + p), r
+    return r * 2**(8*k), 2**(k + 1 + p)
+
+
+def multiplier(operation, r, p, width=BINARY32):
+    """Step 4: M. Since #105 M of both roots is the whole number nearest to the exact
+    one."""
+    if operation == RECIPROCAL:
+        return r * 2**(3*width.k - 1)
+    return nearest_root(*exact_square(operation, r, p, width))
+
+
+def raw_answer(operation, y, m, width):
+    """Step 5: g."""
+    _, s, a = reduction(y, width)
+    return m * series(operation, s, a, width) // 2**(4*width.k)
 
 
 def raw(operation, significand, parity):
-    refusal = raw_refusal(operation, significand, parity)
+    refusal = raw_refusal(operation, significand, parity, BINARY32)
     if refusal:
         return refusal, 0
-    r, s, a = reduction(significand)
-    b = series(operation, s, a)
+    r, _, _ = reduction(significand)
     m = multiplier(operation, r, parity)
-    return 0, m * b // 2**28
+    return 0, raw_answer(operation, significand, m, BINARY32)
+
+
+# #106: the tables of M in the slice that the caller lends.
+
+TABLES = (ROOT, 0), (ROOT, 1), (INVERSE_ROOT, 0), (INVERSE_ROOT, 1)
+ENTRIES = 131072
+
+
+def all_tables():
+    """The four tables, each with i from 2**15 to 2**16 - 1."""
+    return [multiplier(operation, interval_reciprocal(i, BINARY64), p, BINARY64)
+            for operation, p in TABLES
+            for i in range(2**15, 2**16)]
+
+
+def fill_tables(lent):
+    if not right_length(lent):
+        return 15, lent
+    return 0, all_tables()
+
+
+def entry_place(operation, y, p):
+    """The place in the slice of the entry that a significand and a parity use."""
+    return TABLES.index((operation, p)) * 2**15 + interval(y, BINARY64) - 2**15
+
+
+def is_multiplier(entry, operation, y, p):
+    """The M rule of #105 by multiplication: the exact M is above entry - 1/2 and below
+    entry + 1/2. Twice the numbers and four times the squares are whole."""
+    r, _, _ = reduction(y, BINARY64)
+    n, d = exact_square(operation, r, p, BINARY64)
+    return entry > 0 and (2*entry - 1)**2 * d < 4*n < (2*entry + 1)**2 * d
+
+
+def raw64(operation, significand, parity, lent):
+    refusal = raw64_refusal(operation, significand, parity, lent)
+    if refusal:
+        return refusal, 0
+    if operation == RECIPROCAL:
+        r, _, _ = reduction(significand, BINARY64)
+        m = multiplier(operation, r, parity, BINARY64)
+    else:
+        m = lent[entry_place(operation, significand, parity)]
+    return 0, raw_answer(operation, significand, m, BINARY64)
 
 
 # ----------------------------------------------------------- Binary32 unit
 
-POSITIVE_INFINITY = 0x7F800000
-LARGEST = 0x7F7FFFFF
-THE_NAN = 0x7FC00000
+def infinity(width):
+    """The pattern of plus infinity: 7F800000, 7FF0000000000000."""
+    return (2**width.exponent_bits - 1) << width.fraction_bits
 
 
-def fields(bits):
+def largest(width):
+    """The pattern of the largest number: 7F7FFFFF, 7FEFFFFFFFFFFFFF."""
+    return infinity(width) - 1
+
+
+def the_nan(width):
+    """7FC00000, 7FF8000000000000."""
+    return infinity(width) + 2**(width.fraction_bits - 1)
+
+
+def bias(width):
+    """127, 1023: what an exponent field is above the exponent."""
+    return 2**(width.exponent_bits - 1) - 1
+
+
+def fields(bits, width=BINARY32):
     """Sign, exponent and fraction of a pattern."""
-    return bits >> 31, bits >> 23 & 0xFF, bits & 0x7FFFFF
+    return (bits >> width.exponent_bits + width.fraction_bits,
+            bits >> width.fraction_bits & 2**width.exponent_bits - 1,
+            bits & 2**width.fraction_bits - 1)
 
 
-def value(pattern):
-    """The value of a pattern from 00000000 to 7F7FFFFF. For 7F800000 the
-    same rule gives 2**128, the place of infinity as a neighbour."""
-    _, e, f = fields(pattern)
+def value(pattern, width=BINARY32):
+    """The value of a pattern from zero to the largest number. For infinity the
+    same rule gives 2**128 or 2**1024, its place as a neighbour."""
+    _, e, f = fields(pattern, width)
     if e == 0:
-        return f * Fraction(2)**-149
-    return (2**23 + f) * Fraction(2)**(e - 150)
+        e = 1
+    else:
+        f += 2**width.fraction_bits
+    return f * Fraction(2)**(e - bias(width) - width.fraction_bits)
 
 
 def compare(v, operation, x):
@@ -121,13 +231,13 @@ def compare(v, operation, x):
     return (left > right) - (left < right)
 
 
-def lower_neighbour(operation, x):
-    """The largest pattern up to 7F7FFFFF whose value is not above the exact
+def lower_neighbour(operation, x, width):
+    """The largest pattern of a number whose value is not above the exact
     result. Patterns stand in the order of their values."""
-    low, high = 0, LARGEST + 1
+    low, high = 0, infinity(width)
     while high - low > 1:
         middle = (low + high) // 2
-        if compare(value(middle), operation, x) <= 0:
+        if compare(value(middle, width), operation, x) <= 0:
             low = middle
         else:
             high = middle
@@ -148,55 +258,84 @@ def takes_upper(rounding, negative, half, odd):
     return False
 
 
-def rounded(operation, rounding, negative, x):
+def rounded(operation, rounding, negative, x, width):
     """The rounded magnitude, as a pattern, and the flags, for an exact result
     that has a magnitude above zero. x is the operand's magnitude."""
-    low = lower_neighbour(operation, x)
-    if compare(value(low), operation, x) == 0:
+    low = lower_neighbour(operation, x, width)
+    if compare(value(low, width), operation, x) == 0:
         return low, 0
     flags = INEXACT
-    middle = (value(low) + value(low + 1)) / 2
+    middle = (value(low, width) + value(low + 1, width)) / 2
     half = -compare(middle, operation, x)
     pattern = low + takes_upper(rounding, negative, half, low % 2 == 1)
     # Overflow, IEEE 754-2019, 7.4: with an unbounded exponent the rounded
-    # magnitude would be 2**128 or more.
-    if compare(Fraction(2)**128, operation, x) <= 0 or pattern > LARGEST:
+    # magnitude would be 2**128 or 2**1024, or more.
+    beyond = Fraction(2)**(bias(width) + 1)
+    if compare(beyond, operation, x) <= 0 or pattern > largest(width):
         flags |= OVERFLOW
-    # Underflow: below 2**-126 before rounding, and inexact.
-    if compare(Fraction(2)**-126, operation, x) > 0:
+    # Underflow: below 2**-126 or 2**-1022 before rounding, and inexact.
+    if compare(Fraction(2)**(1 - bias(width)), operation, x) > 0:
         flags |= UNDERFLOW
     return pattern, flags
 
 
-def result(operation, rounding, bits):
+def result(operation, rounding, bits, width):
     """The answer's pattern and the flags that the operation raises."""
-    sign, e, f = fields(bits)
-    sign_bit = sign << 31
+    sign, e, f = fields(bits, width)
+    top = 2**width.exponent_bits - 1
+    sign_bit = sign << width.exponent_bits + width.fraction_bits
     is_zero = e == 0 and f == 0
-    is_infinite = e == 255 and f == 0
-    if e == 255 and f != 0:
-        signalling = f >> 22 == 0
-        return THE_NAN, INVALID if signalling else 0
+    is_infinite = e == top and f == 0
+    if e == top and f != 0:
+        signalling = f >> width.fraction_bits - 1 == 0
+        return the_nan(width), INVALID if signalling else 0
     if sign == 1 and not is_zero and operation != RECIPROCAL:
-        return THE_NAN, INVALID
+        return the_nan(width), INVALID
     if is_zero:
         if operation == ROOT:
             return bits, 0
-        return sign_bit | POSITIVE_INFINITY, DIVISION_BY_ZERO
+        return sign_bit | infinity(width), DIVISION_BY_ZERO
     if is_infinite:
         if operation == ROOT:
-            return POSITIVE_INFINITY, 0
+            return infinity(width), 0
         return sign_bit, 0
-    magnitude = bits - sign_bit
-    pattern, flags = rounded(operation, rounding, sign == 1, value(magnitude))
+    x = value(bits - sign_bit, width)
+    pattern, flags = rounded(operation, rounding, sign == 1, x, width)
     return sign_bit | pattern, flags
 
 
 def binary32(operation, rounding, bits, status):
-    refusal = binary32_refusal(operation, rounding)
+    refusal = rounded_refusal(operation, rounding)
     if refusal:
         return refusal, 0, status
-    answer, flags = result(operation, rounding, bits)
+    answer, flags = result(operation, rounding, bits, BINARY32)
+    return 0, answer, status & ALL_FLAGS | flags
+
+
+# ------------------------------------------------------ Binary64 unit, #106
+
+def uses_entry(operation, bits):
+    """Whether a root is worked with an entry of M: not of a zero, an infinity or a
+    NaN, nor of a negative operand, which is invalid."""
+    sign, e, f = fields(bits, BINARY64)
+    return operation != RECIPROCAL and sign == 0 and e != 2047 and (e, f) != (0, 0)
+
+
+def normalized(x):
+    """The significand and the parity of x = Y * 2**e with 1 <= Y < 2, a subnormal's
+    too. Python's % gives a negative odd e the parity 1. The denominator of x is a
+    power of two."""
+    e = x.numerator.bit_length() - x.denominator.bit_length()
+    y = x / Fraction(2)**e * 2**52
+    assert y.denominator == 1 and 2**52 <= y < 2**53
+    return y.numerator, e % 2
+
+
+def binary64(operation, rounding, bits, status, lent):
+    refusal = binary64_refusal(operation, rounding, bits, lent)
+    if refusal:
+        return refusal, 0, status
+    answer, flags = result(operation, rounding, bits, BINARY64)
     return 0, answer, status & ALL_FLAGS | flags
 
 
@@ -393,22 +532,52 @@ def body_agrees(some_bytes, end, body):                                # 9, 13
     return distance == body and len(some_bytes) == distance + len(end)
 
 
-def raw_refusal(operation, significand, parity):
+def right_length(lent):                                                # 15
+    return len(lent) == ENTRIES
+
+
+def raw_refusal(operation, significand, parity, width):
     if not operation_known(operation):
         return 1
-    if not 8388608 <= significand <= 16777215:
+    if not 2**width.fraction_bits <= significand < 2**(width.fraction_bits + 1):
         return 3
     if not (parity == 0 or parity == 1 and operation in (ROOT, INVERSE_ROOT)):
         return 4
     return 0
 
 
-def binary32_refusal(operation, rounding):
+def rounded_refusal(operation, rounding):
     if not operation_known(operation):
         return 1
     if not rounding_known(rounding):
         return 2
     return 0
+
+
+def entry_refusal(operation, y, p, lent):                              # 16
+    if not is_multiplier(lent[entry_place(operation, y, p)], operation, y, p):
+        return 16
+    return 0
+
+
+def raw64_refusal(operation, significand, parity, lent):
+    refusal = raw_refusal(operation, significand, parity, BINARY64)
+    if refusal or operation == RECIPROCAL:
+        return refusal
+    if not right_length(lent):
+        return 15
+    return entry_refusal(operation, significand, parity, lent)
+
+
+def binary64_refusal(operation, rounding, bits, lent):
+    refusal = rounded_refusal(operation, rounding)
+    if refusal or operation == RECIPROCAL:
+        return refusal
+    if not right_length(lent):
+        return 15
+    if not uses_entry(operation, bits):
+        return 0
+    return entry_refusal(operation, *normalized(value(bits, BINARY64)), lent)
 
 
 def trailer_refusal(some_bytes, end, number):

@@ -1,7 +1,8 @@
 """Self-test of plate.py: python3 tests/reference/test_plate.py
 
 The expected values are typed from document 01, the reader's, the rounding's, the
-lift's and the nearest M's from requests #101, #102, #104 and #105 of document 02.
+lift's, the nearest M's and binary64's from requests #101, #102, #104, #105 and #106
+of document 02.
 Where a check comes from elsewhere (IEEE 754, the machine's own arithmetic, public
 vectors, counting, work on paper) its comment says so.
 """
@@ -26,6 +27,7 @@ from plate import DIVISION_BY_ZERO, DOWN, INEXACT, INVALID, INVERSE_ROOT
 from plate import NEAREST, OVERFLOW, RECIPROCAL, ROOT, TOWARD_ZERO, UNDERFLOW, UP
 
 ROUNDINGS = (NEAREST, UP, DOWN, TOWARD_ZERO)
+TABLES64 = plate.all_tables()
 LIST_CALLS = (plate.cutter_list, plate.lifted_list)
 
 
@@ -33,6 +35,19 @@ def make_map(rows, step, radius):
     body = b"".join(struct.pack("<i", height) for row in rows for height in row)
     return body + b"PLT1" + struct.pack(
         "<IHHHH", len(body), len(rows[0]), len(rows), step, radius)
+
+
+def lower_and_upper_agree(operation, x, most):
+    """Demand 3's condition, by the operand's odd part and exponent. The reciprocal's
+    powers of two go as far as most, either way."""
+    n, d = x.numerator, x.denominator              # d is a power of two
+    twos = (n & -n).bit_length() - d.bit_length()
+    odd = n // (n & -n)
+    if operation == RECIPROCAL:
+        return odd == 1 and -most <= twos <= most
+    if operation == ROOT:
+        return twos % 2 == 0 and math.isqrt(odd)**2 == odd
+    return odd == 1 and twos % 2 == 0
 
 
 class Table(unittest.TestCase):
@@ -647,12 +662,345 @@ class SpecialOperands(unittest.TestCase):
                 self.assertEqual(plate.binary32(RECIPROCAL, rounding, bits, 0)[2], flags)
 
 
+class Raw64(unittest.TestCase):
+    """#106: the raw unit at k = 15."""
+
+    def setUp(self):
+        self.random = random.Random(106)
+
+    def significands(self, count):
+        return [self.random.randrange(2**52, 2**53) for _ in range(count)]
+
+    def test_rows(self):
+        # y is 3 / 2: worked with whole numbers, step by step.
+        y = 3 * 2**51
+        self.assertEqual(plate.reduction(y, plate.BINARY64), (43690, -1, 17592186044416))
+        self.assertEqual(plate.series(1, -1, 17592186044416, plate.BINARY64),
+                         1152939097061330944)
+        self.assertEqual(plate.raw64(1, y, 0, ()), (0, 768614336404564650))
+        self.assertEqual(plate.raw64(1, 2**52, 0, ()), (0, 2**60))
+        self.assertEqual(plate.raw64(2, 2**52, 0, TABLES64), (0, 2**60))
+        self.assertEqual(plate.raw64(3, 2**52, 0, TABLES64), (0, 2**60))
+        self.assertEqual(plate.raw64(2, 2**52, 1, TABLES64), (0, 1630477228166597777))
+        self.assertEqual(plate.raw64(3, 2**52, 1, TABLES64), (0, 815238614083298888))
+
+    def test_reduction(self):
+        # The numbers that #106 prints.
+        for y in (2**52, 2**53 - 1, *self.significands(300)):
+            r, s, a = plate.reduction(y, plate.BINARY64)
+            i = y // 2**37
+            self.assertTrue(32768 <= i <= 65535)
+            self.assertEqual(r, 2**31 // i)
+            d = y * r - 2**68
+            self.assertEqual((s, a), (1 if d >= 0 else -1, abs(d) // 256))
+            self.assertLess(a, 2**45)
+
+    def test_series(self):
+        # 1 / (1 + v), its root's and its inverse root's terms up to the third power, in
+        # units of 2**-60; of v's digits the later are left out as document 01 has it.
+        for trial in range(300):
+            a = self.random.randrange(2**45)
+            if trial % 3 == 0:
+                a |= 2**45 - 2**30 >> self.random.randrange(30)
+            a2, a3 = a >> 30, a >> 15 & 32767
+            v, two, three = Fraction(a, 2**60), Fraction(a2, 2**30), Fraction(a3, 2**45)
+            square, cube = two**2 + 2 * two * three, a2**2 // 2**15 * two / 2**45
+            for s in (1, -1):
+                for operation, first, second, third in (
+                        (RECIPROCAL, Fraction(-1), Fraction(1), Fraction(-1)),
+                        (ROOT, Fraction(1, 2), Fraction(-1, 8), Fraction(1, 16)),
+                        (INVERSE_ROOT, Fraction(-1, 2), Fraction(3, 8), Fraction(-5, 16))):
+                    exact = 1 + s * first * v + second * square + s * third * cube
+                    self.assertEqual(plate.series(operation, s, a, plate.BINARY64),
+                                     math.floor(exact * 2**60))
+
+    def test_multipliers(self):
+        # All 131,072 entries by 60 digits of the exact one, which is farther than
+        # 10**-30 from any half: M stands for the root of 2 * 2**p / (R / 2**15), or of
+        # its reciprocal, in units of 2**-60.
+        self.assertEqual(len(TABLES64), 131072)
+        closest = Decimal(1)
+        with localcontext() as context:
+            context.prec = 60
+            unit, half = Decimal(2)**60, Decimal(1) / 2
+            for place, m in enumerate(TABLES64):
+                table, i = place // 32768, place % 32768 + 32768
+                square = Decimal(2**(16 + table % 2)) / (2**31 // i)
+                exact = (square if table < 2 else 1 / square).sqrt() * unit
+                closest = min(closest, half - abs(m - exact))
+        self.assertGreater(closest, Decimal(10)**-30)
+        self.assertLess(max(TABLES64), 2**64)
+
+    def test_order_of_the_tables(self):
+        # The first and the last R are 65536 and 32768: on paper.
+        first, last = TABLES64[0::32768], TABLES64[32767::32768]
+        self.assertEqual((first[0], first[2]), (2**60, 2**60))
+        self.assertLess(abs(first[1]**2 - 2**121), first[1] + 1)
+        self.assertLess(abs(first[3]**2 - 2**119), first[3] + 1)
+        self.assertEqual((last[1], last[3]), (2**61, 2**59))
+        for operation, p, place in ((2, 0, 0), (2, 1, 32768), (3, 0, 65536), (3, 1, 98304)):
+            self.assertEqual(plate.entry_place(operation, 2**52, p), place)
+            self.assertEqual(plate.entry_place(operation, 2**52 + 2**37 - 1, p), place)
+            self.assertEqual(plate.entry_place(operation, 2**52 + 2**37, p), place + 1)
+            self.assertEqual(plate.entry_place(operation, 2**53 - 1, p), place + 32767)
+
+    def test_no_tie(self):
+        # Half of an odd number has four times its square odd. No such square is here.
+        for i in range(32768, 65536):
+            for operation, p in ((2, 0), (2, 1), (3, 0), (3, 1)):
+                n, d = plate.exact_square(operation, 2**31 // i, p, plate.BINARY64)
+                self.assertFalse(4 * n % d == 0 and 4 * n // d % 2 == 1)
+
+    def test_fill(self):
+        for length in (0, 1, 32768, 131071, 131073):
+            lent = list(range(length))
+            self.assertEqual(plate.fill_tables(lent), (15, lent))
+        self.assertEqual(plate.fill_tables(range(131072)), (0, TABLES64))
+
+    def test_entry_rule(self):
+        # Exactly one number keeps the rule.
+        for y in (2**52, 2**53 - 1, *self.significands(200)):
+            for operation, p in ((2, 0), (2, 1), (3, 0), (3, 1)):
+                m = TABLES64[plate.entry_place(operation, y, p)]
+                self.assertTrue(plate.is_multiplier(m, operation, y, p))
+                for entry in (m - 1, m + 1, 0, m // 2, 2 * m, m + 2**63, 2**64 - m, 2**64 - 1):
+                    self.assertFalse(plate.is_multiplier(entry, operation, y, p))
+
+    def test_lent_entries(self):
+        for y in (2**52, 2**53 - 1, *self.significands(5)):
+            for operation, p in ((2, 0), (2, 1), (3, 0), (3, 1)):
+                right = plate.raw64(operation, y, p, TABLES64)
+                place = plate.entry_place(operation, y, p)
+                lent = TABLES64.copy()
+                for entry in (0, lent[place] - 1, lent[place] + 1, 2**64 - 1):
+                    lent[place] = entry
+                    self.assertEqual(plate.raw64(operation, y, p, lent), (16, 0))
+                # No other entry is looked at.
+                lent = [0] * 131072
+                lent[place] = TABLES64[place]
+                self.assertEqual(plate.raw64(operation, y, p, lent), right)
+                self.assertEqual(plate.raw64(operation, y, p, lent[:-1]), (15, 0))
+                self.assertEqual(plate.raw64(operation, y, p, lent + [0]), (15, 0))
+
+    def test_questions(self):
+        wrong = [0] * 131072
+        for lent in ((), wrong, TABLES64):
+            self.assertEqual(plate.raw64(0, 0, 9, lent), (1, 0))
+            self.assertEqual(plate.raw64(4, 2**52, 0, lent), (1, 0))
+            for operation in (1, 2, 3):
+                self.assertEqual(plate.raw64(operation, 2**52 - 1, 9, lent), (3, 0))
+                self.assertEqual(plate.raw64(operation, 2**53, 9, lent), (3, 0))
+                self.assertEqual(plate.raw64(operation, 2**53 - 1, 2, lent), (4, 0))
+            self.assertEqual(plate.raw64(1, 2**52, 1, lent), (4, 0))
+            self.assertEqual(plate.raw64(1, 2**52, 0, lent), (0, 2**60))
+        for operation, p in ((2, 0), (2, 1), (3, 0), (3, 1)):
+            self.assertEqual(plate.raw64(operation, 2**52, p, wrong[1:]), (15, 0))
+            self.assertEqual(plate.raw64(operation, 2**52, p, wrong), (16, 0))
+
+    def test_distance(self):
+        # Under 12, 7 and 7 units of 2**-60.
+        edges = [i << 37 for i in range(32768, 65536, 97)]
+        for y in edges + [y - 1 for y in edges[1:]] + self.significands(10000):
+            g = plate.raw64(RECIPROCAL, y, 0, ())[1]
+            self.assertLess(abs(g * y - 2**112), 12 * y)
+            for p in (0, 1):
+                g = plate.raw64(ROOT, y, p, TABLES64)[1]    # exact: sqrt(y * 2**(68 + p))
+                self.assertLess((g - 7)**2, y * 2**(68 + p))
+                self.assertGreater((g + 7)**2, y * 2**(68 + p))
+                g = plate.raw64(INVERSE_ROOT, y, p, TABLES64)[1]
+                self.assertLess((g - 7)**2 * y, 2**(172 - p))   # exact: sqrt(2**(172 - p) / y)
+                self.assertGreater((g + 7)**2 * y, 2**(172 - p))
+
+
+def bits64(x):
+    """The pattern of the machine's number, which is a binary64 one."""
+    return struct.unpack("<Q", struct.pack("<d", x))[0]
+
+
+class Binary64(unittest.TestCase):
+    """#106: the rounded unit."""
+
+    SIGN = 0x8000000000000000
+
+    def setUp(self):
+        self.random = random.Random(1064)
+
+    def operands(self, count):
+        """Positive finite patterns."""
+        return [self.random.randrange(1, 0x7FF0000000000000) for _ in range(count)]
+
+    def check(self, operation, bits, answers, flags):
+        """answers: nearest, up, down, toward zero; or one for all."""
+        if isinstance(answers, int):
+            answers = [answers] * 4
+        for rounding, answer in zip(ROUNDINGS, answers):
+            self.assertEqual(plate.binary64(operation, rounding, bits, 0, TABLES64),
+                             (0, answer, flags), f"{operation} {rounding} {bits:016X}")
+
+    def test_rows(self):
+        third, root2 = 0x3FD5555555555555, 0x3FF6A09E667F3BCC
+        self.check(1, 0x4008000000000000, (third, third + 1, third, third), INEXACT)
+        third |= self.SIGN
+        self.check(1, 0xC008000000000000, (third, third, third + 1, third), INEXACT)
+        self.check(2, 0x4000000000000000, (root2 + 1, root2 + 1, root2, root2), INEXACT)
+        self.check(3, 0x4010000000000000, 0x3FE0000000000000, 0)
+        one = 0x3FF0000000000000
+        self.check(3, one + 1, (one - 1, one, one - 1, one - 1), INEXACT)
+        self.check(1, 0x0008000000000000, 0x7FE0000000000000, 0)       # 2**-1023
+        self.check(1, 0x7FE0000000000000, 0x0008000000000000, 0)       # 2**1023
+        self.check(2, 0x0000000000000001, 0x1E60000000000000, 0)       # 2**-1074
+        self.check(3, 0x0000000000000001, 0x6180000000000000, 0)
+
+    def test_overflow(self):
+        # IEEE 754-2019, 7.4: what each rounding gives beyond the largest.
+        infinite, largest = 0x7FF0000000000000, 0x7FEFFFFFFFFFFFFF
+        for bits in (0x0000000000000001, 0x0003FFFFFFFFFFFF, 0x0004000000000000):
+            self.check(1, bits, (infinite, infinite, largest, largest), OVERFLOW | INEXACT)
+            self.check(1, bits | self.SIGN,
+                       [self.SIGN | n for n in (infinite, largest, infinite, largest)],
+                       OVERFLOW | INEXACT)
+        near = 0x7FEFFFFFFFFFFFF8
+        self.check(1, 0x0004000000000001, (near, near + 1, near, near), INEXACT)
+
+    def test_underflow(self):
+        smallest, tiny = 0x0010000000000000, UNDERFLOW | INEXACT
+        # 2**-1022 * (1 + 2**-53 + 2**-106 + ...): just above the middle.
+        self.check(1, 0x7FCFFFFFFFFFFFFF, (smallest + 1, smallest + 1, smallest, smallest),
+                   INEXACT)
+        self.check(1, 0x7FD0000000000000, smallest, 0)
+        # Up it is 2**-1022 itself: the exact result is below, so it underflows.
+        self.check(1, 0x7FD0000000000001, (smallest - 1, smallest, smallest - 1, smallest - 1),
+                   tiny)
+        half = 0x8008000000000000
+        self.check(1, 0xFFE0000000000001, (half, half - 1, half, half - 1), tiny)
+        self.check(1, 0x7FEFFFFFFFFFFFFF, (0x4000000000000, 0x4000000000001, 0x4000000000000,
+                                           0x4000000000000), tiny)
+
+    def test_special_operands(self):
+        nan, infinite = 0x7FF8000000000000, 0x7FF0000000000000
+        for operation in (1, 2, 3):
+            for sign in (0, self.SIGN):
+                self.check(operation, sign | nan, nan, 0)
+                self.check(operation, sign | 0x7FFFFFFFFFFFFFFF, nan, 0)
+                self.check(operation, sign | 0x7FF0000000000001, nan, INVALID)
+                self.check(operation, sign | 0x7FF7FFFFFFFFFFFF, nan, INVALID)
+        for operation in (2, 3):
+            for bits in (1, 0x000FFFFFFFFFFFFF, 0x3FF0000000000000, infinite - 1, infinite):
+                self.check(operation, self.SIGN | bits, nan, INVALID)
+        for sign in (0, self.SIGN):
+            self.check(2, sign, sign, 0)
+            self.check(1, sign, sign | infinite, DIVISION_BY_ZERO)
+            self.check(3, sign, sign | infinite, DIVISION_BY_ZERO)
+            self.check(1, sign | infinite, sign, 0)
+        self.check(2, infinite, infinite, 0)
+        self.check(3, infinite, 0, 0)
+
+    def test_entries(self):
+        # Where each operand's entry lies, by Y * 2**e on paper. -3 is twice -2 with
+        # parity 1; the subnormal 3 * 2**-1074 is 1.5 * 2**-1073.
+        for bits, p, i in ((0x3FF0000000000000, 0, 0), (0x4000000000000000, 1, 0),
+                           (0x3FC0000000000000, 1, 0), (0x3FD8000000000000, 0, 16384),
+                           (0x7FEFFFFFFFFFFFFF, 1, 32767), (0x0010000000000000, 0, 0),
+                           (0x000FFFFFFFFFFFFF, 1, 32767), (0x0008000000000000, 1, 0),
+                           (0x0000000000000001, 0, 0), (0x0000000000000002, 1, 0),
+                           (0x0000000000000003, 1, 16384), (0x0000000000000007, 0, 24576)):
+            for operation in (2, 3):
+                place = 65536 * (operation - 2) + 32768 * p + i
+                right = plate.binary64(operation, 0, bits, 0, TABLES64)
+                self.assertEqual(right[0], 0)
+                lent = TABLES64.copy()
+                for entry in (0, lent[place] - 1, lent[place] + 1, 2**64 - 1):
+                    lent[place] = entry
+                    self.assertEqual(plate.binary64(operation, 0, bits, 255, lent), (16, 0, 255))
+                lent = [0] * 131072
+                lent[place] = TABLES64[place]
+                self.assertEqual(plate.binary64(operation, 0, bits, 0, lent), right)
+
+    def test_questions(self):
+        wrong, one = [0] * 131072, 0x3FF0000000000000
+        special = (0, self.SIGN, self.SIGN | one, self.SIGN | 1, 0x7FF0000000000000,
+                   0xFFF0000000000000, 0x7FF0000000000001, 0xFFFFFFFFFFFFFFFF)
+        for lent in ((), wrong, TABLES64):
+            for bits in (one, *special):
+                self.assertEqual(plate.binary64(0, 4, bits, 255, lent), (1, 0, 255))
+                self.assertEqual(plate.binary64(4, 0, bits, 255, lent), (1, 0, 255))
+                for operation in (1, 2, 3):
+                    self.assertEqual(plate.binary64(operation, 4, bits, 224, lent), (2, 0, 224))
+            self.assertEqual(plate.binary64(1, 0, one, 255, lent), (0, one, 31))
+            self.assertEqual(plate.binary64(1, 0, 0, 224, lent), (0, 0x7FF0000000000000, 2))
+        for operation in (2, 3):
+            for bits in (one, 1, *special):
+                for lent in ((), wrong[1:], wrong + [0], TABLES64[:-1]):
+                    self.assertEqual(plate.binary64(operation, 0, bits, 224, lent), (15, 0, 224))
+            for bits in special:
+                self.assertEqual(plate.binary64(operation, 0, bits, 0, wrong),
+                                 plate.binary64(operation, 0, bits, 0, TABLES64))
+            self.assertEqual(plate.binary64(operation, 0, one, 255, wrong), (16, 0, 255))
+            self.assertEqual(plate.binary64(operation, 0, one, 255, TABLES64), (0, one, 31))
+
+    def test_against_the_machine(self):
+        # Python's numbers are binary64, and its division and root round to nearest.
+        for bits in self.operands(1500) + [self.random.randrange(1, 2**52) for _ in range(100)]:
+            x, = struct.unpack("<d", struct.pack("<Q", bits))
+            if bits > 0x0004000000000000:
+                self.assertEqual(plate.binary64(1, 0, bits, 0, ())[1], bits64(1.0 / x))
+            self.assertEqual(plate.binary64(2, 0, bits, 0, TABLES64)[1], bits64(math.sqrt(x)))
+
+    def test_inverse_root(self):
+        # The root of 4**1200 / x by whole numbers, and of it the first 53 bits.
+        for bits in self.operands(300):
+            x = plate.value(bits, plate.BINARY64)
+            answer = plate.value(plate.binary64(3, DOWN, bits, 0, TABLES64)[1], plate.BINARY64)
+            root = math.isqrt(x.denominator * 4**1200 // x.numerator)
+            cut = root.bit_length() - 53
+            self.assertEqual(answer, Fraction(root >> cut << cut, 2**1200))
+
+    def test_hard_cases(self):
+        # The search says on which side of a number or of a middle the result lies.
+        lines = (make_vectors.HERE / "hard_cases64.txt").read_text().splitlines()
+        for line in lines:
+            operation, bits, kind, _, side, _ = line.split()
+            nearest, up, down, _ = (
+                plate.binary64(int(operation), rounding, int(bits, 16), 0, TABLES64)[1]
+                for rounding in ROUNDINGS)
+            self.assertEqual(up, down + 1)
+            self.assertEqual(nearest, up if (kind, side) in (("number", "below"),
+                                                             ("middle", "above")) else down)
+        self.assertEqual(len(lines), 336)
+
+    def test_down_and_up(self):
+        def agree(operation, bits):
+            lower, upper = (plate.binary64(operation, rounding, bits, status, TABLES64)[1]
+                            for rounding, status in ((DOWN, 0), (UP, 31)))
+            self.assertIn(upper - lower, (0, 1))
+            return lower == upper
+
+        exponents = [*range(-1074, 1024, 7), -1074, -1073, -1024, -1023, -1022, -1021, 1022, 1023]
+        powers = [make_vectors.operand(1, e, plate.BINARY64) for e in exponents]
+        for operation in (1, 2, 3):
+            for bits in powers + self.operands(300):
+                x = plate.value(bits, plate.BINARY64)
+                self.assertEqual(agree(operation, bits),
+                                 lower_and_upper_agree(operation, x, 1023))
+        for _ in range(300):
+            n = self.random.randrange(1, 94906266)              # its square has 53 bits
+            square = bits64(math.ldexp(n * n, 2 * self.random.randrange(-537, 485)))
+            self.assertTrue(agree(ROOT, square))
+
+
 class Public(unittest.TestCase):
     def test_published_answers(self):
         # The answers of tests/public/*.txt, as their sources publish them.
         count = 0
         for call, answer in vectors.published():
             self.assertEqual(plate.binary32(*call), answer, "%d %d %08X %d" % call)
+            count += 1
+        self.assertGreater(count, 0)
+
+    def test_published_answers_of_binary64(self):
+        count = 0
+        for call, answer in vectors.published64():
+            self.assertEqual(plate.binary64(*call, TABLES64), answer, "%d %d %016X %d" % call)
             count += 1
         self.assertGreater(count, 0)
 
@@ -698,16 +1046,7 @@ class Samples(unittest.TestCase):
         return lower == upper
 
     def agrees(self, operation, bits):
-        """Demand 3's condition, by the operand's odd part and exponent."""
-        x = plate.value(bits)
-        n, d = x.numerator, x.denominator          # d is a power of two
-        twos = (n & -n).bit_length() - d.bit_length()
-        odd = n // (n & -n)
-        if operation == RECIPROCAL:
-            return odd == 1 and -127 <= twos <= 127
-        if operation == ROOT:
-            return twos % 2 == 0 and math.isqrt(odd)**2 == odd
-        return odd == 1 and twos % 2 == 0
+        return lower_and_upper_agree(operation, plate.value(bits), 127)
 
     def test_down_and_up(self):
         powers = [1 << k for k in range(23)] + [e << 23 for e in range(1, 255)]
