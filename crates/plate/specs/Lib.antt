@@ -1,6 +1,7 @@
 pub mod Status
 pub mod Raw
 pub mod Binary32
+pub mod Binary64
 pub mod List
 pub mod Record
 pub mod Packed

@@ -7,12 +7,14 @@ ghost use Rattle.significand.specs.Call.{rawRefusal, rawAnswer};
 ghost use Rattle.ieee.specs.Call.{binary32Refusal, binary32Bits, binary32Status};
 ghost use Rattle.cutter.specs.Call.{listRefusal, listAnswer, bufferAfter};
 ghost use Rattle.plate.specs.Packed.{packed};
+ghost use Rattle.plate.specs.Binary64.{binary64Call, binary64ForC};
 ghost use Rattle.plate.specs.Record.{recordCall, roundingNumber, recordForC};
 use crate::ListRounding;
 use crate::Operation;
 use crate::Rounding;
 use crate::Status;
 use crate::binary32;
+use crate::binary64;
 use crate::lifted_list;
 use crate::list;
 use crate::raw;
@@ -39,6 +41,39 @@ pub extern "C" fn plate_binary32(operation: u8, rounding: u8, status: u8, bits: 
         Status { flags: status },
     );
     pack(r.refusal, r.status.flags, r.bits)
+}
+
+// The binary64 call's reply for C, whose answer leaves no room in one number.
+#[repr(C)]
+pub struct CBinary64Reply {
+    pub refusal: u8,
+    pub status: u8,
+    pub bits: u64,
+}
+
+// The binary64 call.
+#[no_mangle]
+pub extern "C" fn plate_binary64(
+    operation: u8,
+    rounding: u8,
+    status: u8,
+    bits: u64,
+    tables: &[u64],
+) -> CBinary64Reply
+    ensures { λ r. ⌜ r ≡ binary64ForC (binary64Call operation rounding bits (record { flags = status }) (now (tables .entry))) ⌝ }
+{
+    let r = binary64(
+        Operation(operation),
+        Rounding(rounding),
+        bits,
+        Status { flags: status },
+        tables,
+    );
+    CBinary64Reply {
+        refusal: r.refusal,
+        status: r.status.flags,
+        bits: r.bits,
+    }
 }
 
 // The list call; it has no status either.

@@ -11,6 +11,7 @@ ghost use Rattle.reader.specs.Reader.{recordRefusal};
 ghost use Rattle.plate.specs.Status.{raised, cleared};
 ghost use Rattle.plate.specs.Raw.{rawCall};
 ghost use Rattle.plate.specs.Binary32.{binary32Call};
+ghost use Rattle.plate.specs.Binary64.{binary64Call};
 ghost use Rattle.plate.specs.List.{ListCall};
 ghost use Rattle.plate.specs.Record.{listRounding, refusedRecord, recordRead, recordCall};
 use kinds::Flags;
@@ -137,6 +138,46 @@ pub fn binary32(
     }
     let rounded = binary32::answer(Op::of(operation.0), Mode::of(rounding.0), bits);
     Binary32Reply {
+        refusal,
+        bits: rounded.bits,
+        status: status.raise(Flag(rounded.flags)),
+    }
+}
+
+// What the binary64 call gives back, as the binary32 call does.
+pub struct Binary64Reply {
+    pub refusal: u8,
+    pub bits: u64,
+    pub status: Status,
+}
+
+// The binary64 call. The roots take M from the lent tables, and test the entry that they use; the reciprocal looks at no slice.
+pub fn binary64(
+    operation: Operation,
+    rounding: Rounding,
+    bits: u64,
+    status: Status,
+    tables: &[u64],
+) -> Binary64Reply
+    ensures { λ r. ⌜ r ≡ binary64Call (operation .0) (rounding .0) bits status (now (tables .entry)) ⌝ }
+{
+    let refusal = binary64::door(operation.0, rounding.0, tables.len());
+    if refusal != 0 {
+        return Binary64Reply {
+            refusal,
+            bits: 0,
+            status,
+        };
+    }
+    let rounded = binary64::answer(Op::of(operation.0), Mode::of(rounding.0), bits, tables);
+    if !rounded.holds {
+        return Binary64Reply {
+            refusal: 16,
+            bits: 0,
+            status,
+        };
+    }
+    Binary64Reply {
         refusal,
         bits: rounded.bits,
         status: status.raise(Flag(rounded.flags)),
