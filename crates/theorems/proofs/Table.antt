@@ -1,5 +1,5 @@
 -- The rows of document 01's table that are marked P, together. Assumes nothing.
-use mathlib.Core.Path.{_≡_}
+use mathlib.Core.Path.{_≡_, refl}
 use Prim.Native.Nat.{ℕ}
 use lib.Dec.{T, le→leb}
 use Rattle.kinds.specs.Operation.{isOperation, opOf}
@@ -22,7 +22,7 @@ gives : (operation rounding operand bits flags : ℕ) → T (isOperation operati
     → answerOf binary32 (opOf operation) (modeOf rounding) operand ≡ answer bits flags → Gives operation rounding operand bits flags
 gives operation rounding operand bits flags o r e s =
     let a = unrefused operation rounding o r in
-    rw (a, accepted-bits operation rounding operand a, accepted-status operation rounding operand a (s .flags), e)
+    rw (a, accepted-bits binary32 0 (opOf operation) (modeOf rounding) operand refl, accepted-status binary32 0 (opOf operation) (modeOf rounding) operand refl (s .flags), e)
 
 pub table : Table
 table =

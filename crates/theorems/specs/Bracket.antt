@@ -2,23 +2,23 @@
 use mathlib.Core.Path.{_≡_}
 use mathlib.Core.Logic.{_↔_}
 use mathlib.Core.List.{List}
-use Prim.Native.Nat.{ℕ, suc, _*_, _<_}
+use Prim.Native.Nat.{ℕ, _*_, _<_}
 use lib.ListN.{take}
 use lib.IntN.{pos, _+ℤ_}
 use Rattle.kinds.specs.Operation.{opOf}
-use Rattle.ieee.specs.Format.{binary32, magnitudeOf}
+use Rattle.ieee.specs.Format.{Format, magnitudeOf}
 use Rattle.ieee.specs.Agree.{Agree}
+use Rattle.ieee.specs.Bracket.{Bracket}
 use Rattle.cutter.specs.Map.{widthOf, depthOf}
 use Rattle.cutter.specs.List.{countOf, entryAt}
 use Rattle.cutter.specs.Agree.{ExactMap}
 use Rattle.bracket.specs.Bracket.{EndsAlike}
-use Rattle.plate.specs.declared.Binary32Reply.{Binary32Reply}
 use Rattle.plate.specs.declared.ListReply.{ListReply}
 
--- two answers to one operand: equal exactly where its value agrees, and otherwise the upper pattern is the next above the lower
-pub record Binary32Bracket (operation operand : ℕ) (lower upper : Binary32Reply) : Type 0 where
-  pub equal : (lower .bits ≡ upper .bits) ↔ Agree binary32 (opOf operation) (magnitudeOf binary32 operand)
-  pub next : (Agree binary32 (opOf operation) (magnitudeOf binary32 operand) → ⊥) → upper .bits ≡ suc (lower .bits)
+-- two answers to one operand, by their bits: equal exactly where its value agrees, and otherwise the upper pattern is the next above the
+-- lower
+abbrev pub CallsBracket : Format → ℕ → ℕ → ℕ → ℕ → Type 0
+CallsBracket f operation operand lower upper = Bracket (Agree f (opOf operation) (magnitudeOf f operand)) lower upper
 
 -- two lists of the map m, each what a call left in its buffer, over the length that it reported: their records are equal byte for byte
 -- exactly where the map is exact at every inner point; of two entries that differ, the upper is larger by one micrometre; behind the
