@@ -3,6 +3,7 @@
 
 pub mod calls;
 pub mod chance;
+pub mod formats;
 pub mod machine;
 pub mod maps;
 pub mod reference;
