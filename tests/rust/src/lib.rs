@@ -7,6 +7,7 @@ pub mod formats;
 pub mod machine;
 pub mod maps;
 pub mod reference;
+pub mod slices;
 #[cfg(feature = "self")]
 pub mod stand_in;
 pub mod vectors;
