@@ -11,6 +11,7 @@ pub mod slices;
 #[cfg(feature = "self")]
 pub mod stand_in;
 pub mod vectors;
+pub mod wide;
 pub mod work;
 
 /// The 64-bit number that a call gives.

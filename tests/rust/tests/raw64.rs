@@ -5,6 +5,7 @@ use plate_tests::calls::{fill_tables, raw64 as call};
 use plate_tests::chance::Chance;
 use plate_tests::reference::{self, place, raw64, tables, INVERSE_ROOT, RECIPROCAL, ROOT, TABLES};
 use plate_tests::slices::{Slices, LENGTHS};
+use plate_tests::wide::{power, times};
 use plate_tests::{vectors, work};
 
 const ACCEPTED: [(u8, u8); 5] = [(1, 0), (2, 0), (2, 1), (3, 0), (3, 1)];
@@ -16,17 +17,6 @@ const SAMPLE: u64 = 100 << 15;
 
 /// How many numbers stand on each side of a slice that is to be filled.
 const GUARD: usize = 3;
-
-/// a * b as its upper part and its lower 64 bits.
-fn times(a: u128, b: u64) -> (u128, u64) {
-    let low = (a as u64) as u128 * b as u128;
-    ((a >> 64) * b as u128 + (low >> 64), low as u64)
-}
-
-/// 2^k in the same form.
-fn power(k: u8) -> (u128, u64) {
-    (1 << (k - 64), 0)
-}
 
 /// The interval's ends and beside them, where d turns from below 0 to above, where a digit
 /// of a turns, and any.
@@ -82,7 +72,7 @@ fn distance() {
                 (g - 7).pow(2) < square && square < (g + 7).pow(2)
             }
             _ => {
-                let square = power(172 - parity);
+                let square = power(172 - parity as u32);
                 times((g - 7).pow(2), y) < square && square < times((g + 7).pow(2), y)
             }
         };
@@ -117,7 +107,7 @@ fn filling() {
         assert_eq!(numbers[GUARD + TABLES..], before[GUARD + TABLES..]);
         let filled = &numbers[GUARD..GUARD + TABLES];
         for (n, &w) in filled.iter().enumerate() {
-            let (i, p) = (32_768 + n as u64 % 32_768, (n / 32_768 % 2) as u8);
+            let (i, p) = (32_768 + n as u64 % 32_768, (n / 32_768 % 2) as u32);
             let r = (1 << 31) / i;
             assert!((1..1 << 62).contains(&w), "number {n}: {w}");
             let [below, above] = [2 * w - 1, 2 * w + 1].map(|twice| (twice as u128).pow(2));
