@@ -124,13 +124,6 @@ impl Operand for u64 {
     instruction!(f64);
 }
 
-fn by_machine<P: Operand>(operation: u8, rounding: u8, bits: P) -> (P, u8) {
-    match operation {
-        1 => machine::reciprocal(rounding, bits),
-        _ => machine::root(rounding, bits),
-    }
-}
-
 fn unit<'a, P: Operand>(operation: u8, rounding: u8, operands: &'a [P], tables: &'a [u64]) -> Side<'a> {
     side("unit", move || {
         for &bits in operands {
@@ -152,7 +145,7 @@ fn sides<'a, P: Operand>(operation: u8, rounding: u8, operands: &'a [P], tables:
     if operation < 3 {
         sides.push(side("with flags", move || {
             for &bits in operands {
-                black_box(by_machine(operation, rounding, bits));
+                black_box(machine::answer(operation, rounding, bits));
             }
         }));
         #[cfg(feature = "softfloat")]
@@ -251,7 +244,7 @@ fn check<P: Operand>(operands: &[P], tables: &[u64]) {
                 let given = bits.call(operation, rounding, tables);
                 let about = || format!("{operation} {rounding} {bits:X}");
                 if operation < 3 {
-                    let (answer, flags) = by_machine(operation, rounding, bits);
+                    let (answer, flags) = machine::answer(operation, rounding, bits);
                     assert_eq!(given, P::given(answer, flags), "{}", about());
                     #[cfg(feature = "softfloat")]
                     assert_eq!((answer, flags), crate::softfloat::answer(operation, rounding, bits), "{}", about());

@@ -42,7 +42,7 @@ impl Unit for Binary32 {
     }
 
     fn machine(operation: u8, rounding: u8, bits: u64) -> (u64, u8) {
-        let (answer, flags) = by_machine(operation, rounding, bits as u32);
+        let (answer, flags) = machine::answer(operation, rounding, bits as u32);
         (answer as u64, flags)
     }
 }
@@ -61,14 +61,7 @@ impl Unit for Binary64 {
     }
 
     fn machine(operation: u8, rounding: u8, bits: u64) -> (u64, u8) {
-        by_machine(operation, rounding, bits)
-    }
-}
-
-fn by_machine<P: machine::Pattern>(operation: u8, rounding: u8, bits: P) -> (P, u8) {
-    match operation {
-        RECIPROCAL => machine::reciprocal(rounding, bits),
-        _ => machine::root(rounding, bits),
+        machine::answer(operation, rounding, bits)
     }
 }
 

@@ -18,7 +18,7 @@
 
 use core::arch::asm;
 
-use crate::reference::{BINARY32, BINARY64, DIVISION_BY_ZERO, INEXACT, INVALID, OVERFLOW, UNDERFLOW};
+use crate::reference::{BINARY32, BINARY64, DIVISION_BY_ZERO, INEXACT, INVALID, OVERFLOW, RECIPROCAL, UNDERFLOW};
 
 const ALL_MASKED: u32 = 0x1F80;
 
@@ -59,8 +59,8 @@ pub trait Pattern: Sized {
     fn root(self, rounding: u8) -> (Self, u8);
 }
 
-/// Document 01's answer to an instruction that takes 1 and x.
-macro_rules! answer {
+/// The bits and the flags of an instruction that takes 1 and x.
+macro_rules! run {
     ($float:ident, $nan:expr, $instruction:literal, $rounding:expr, $bits:expr) => {{
         let mut before = 0u32;
         let mut mxcsr = control($rounding);
@@ -85,28 +85,28 @@ macro_rules! answer {
 
 impl Pattern for u32 {
     fn reciprocal(self, rounding: u8) -> (u32, u8) {
-        answer!(f32, BINARY32.nan() as u32, "divss", rounding, self)
+        run!(f32, BINARY32.nan() as u32, "divss", rounding, self)
     }
 
     fn root(self, rounding: u8) -> (u32, u8) {
-        answer!(f32, BINARY32.nan() as u32, "sqrtss", rounding, self)
+        run!(f32, BINARY32.nan() as u32, "sqrtss", rounding, self)
     }
 }
 
 impl Pattern for u64 {
     fn reciprocal(self, rounding: u8) -> (u64, u8) {
-        answer!(f64, BINARY64.nan(), "divsd", rounding, self)
+        run!(f64, BINARY64.nan(), "divsd", rounding, self)
     }
 
     fn root(self, rounding: u8) -> (u64, u8) {
-        answer!(f64, BINARY64.nan(), "sqrtsd", rounding, self)
+        run!(f64, BINARY64.nan(), "sqrtsd", rounding, self)
     }
 }
 
-pub fn reciprocal<P: Pattern>(rounding: u8, bits: P) -> (P, u8) {
-    bits.reciprocal(rounding)
-}
-
-pub fn root<P: Pattern>(rounding: u8, bits: P) -> (P, u8) {
-    bits.root(rounding)
+/// The bits and the flags that the machine gives to operation 1 or 2.
+pub fn answer<P: Pattern>(operation: u8, rounding: u8, bits: P) -> (P, u8) {
+    match operation {
+        RECIPROCAL => bits.reciprocal(rounding),
+        _ => bits.root(rounding),
+    }
 }

@@ -9,16 +9,15 @@ use crate::reference::{tables, TABLES};
 pub const LENGTHS: [usize; 5] = [0, 1, TABLES - 1, TABLES, TABLES + 1];
 
 /// Numbers that are not the entry at this place: beside it, entries of other places, and
-/// any; or, if all bits are wanted, it with each of its bits turned.
-fn wrong_entries(place: usize, all_bits: bool, chance: &mut Chance) -> Vec<u64> {
+/// any; at some places, the ends of the tables among them, it with each of its bits turned.
+fn wrong_entries(place: usize, chance: &mut Chance) -> Vec<u64> {
     let entry = tables()[place];
-    let mut wrong: Vec<u64> = if all_bits {
-        (0..64).map(|bit| entry ^ 1 << bit).collect()
-    } else {
-        let other = tables()[(place + chance.pick(&[1, 32_768, 65_536, 98_304, TABLES - 1])) % TABLES];
-        let turned = entry ^ 1 << chance.range(0, 63);
-        vec![entry - 1, entry + 1, 0, 2 * entry, entry / 2, other, turned, chance.next()]
-    };
+    let other = tables()[(place + chance.pick(&[1, 32_768, 65_536, 98_304, TABLES - 1])) % TABLES];
+    let turned = entry ^ 1 << chance.range(0, 63);
+    let mut wrong = vec![entry - 1, entry + 1, 0, 2 * entry, entry / 2, other, turned, chance.next()];
+    if place % 61 == 0 || place % 32_768 < 3 || place % 32_768 > 32_764 {
+        wrong.extend((0..64).map(|bit| entry ^ 1 << bit));
+    }
     wrong.retain(|&number| number != entry);
     wrong
 }
@@ -50,7 +49,6 @@ impl Slices {
     pub fn check<T: PartialEq + Debug>(
         &mut self,
         place: usize,
-        all_bits: bool,
         call: impl Fn(&[u64]) -> T,
         accepted: T,
         refused: T,
@@ -59,7 +57,7 @@ impl Slices {
         let number = std::mem::replace(&mut self.wrong[place], entry);
         assert_eq!(call(&self.wrong[..TABLES]), accepted, "every number but that at {place} wrong");
         self.wrong[place] = number;
-        for number in wrong_entries(place, all_bits, &mut self.chance) {
+        for number in wrong_entries(place, &mut self.chance) {
             self.sound[place] = number;
             assert_eq!(call(&self.sound[..TABLES]), refused, "{number:X} for {entry:X} at {place}");
         }

@@ -246,11 +246,7 @@ fn wrong_entries() {
         let (rounding, status) = (chance.range(0, 3) as u8, chance.next() as u8);
         let expected = Binary64::reference(operation, rounding, status, bits);
         let library = |slice: &[u64]| call(operation, rounding, status, bits, slice);
-        let all_bits = n % 61 == 0 || n % 32_768 < 3 || n % 32_768 > 32_764;
-        slices.check(n, false, library, expected, (16, 0, status));
-        if all_bits {
-            slices.check(n, true, library, expected, (16, 0, status));
-        }
+        slices.check(n, library, expected, (16, 0, status));
     }
     println!("{subnormal} operands were subnormal");
     assert!(subnormal > 1_000 && slices.kept());

@@ -150,10 +150,7 @@ fn wrong_entries() {
         assert_eq!(place(operation, y, parity), n);
         let expected = raw64(operation, y, parity, tables());
         let library = |slice: &[u64]| call(operation, y, parity, slice);
-        slices.check(n, false, library, expected, (16, 0));
-        if n % 61 == 0 || n % 32_768 < 3 || n % 32_768 > 32_764 {
-            slices.check(n, true, library, expected, (16, 0));
-        }
+        slices.check(n, library, expected, (16, 0));
     }
     assert!(slices.kept());
 }
