@@ -33,7 +33,7 @@ const OPERATIONS: [&str; 4] = ["", "reciprocal", "root", "inverse root"];
 pub trait Operand: machine::Pattern + Soft + Value + Copy + PartialEq + Debug + UpperHex {
     const NAME: &'static str;
     const FORMAT: Format;
-    /// How the answers are named that the machine and SoftFloat give.
+    /// The machine's instructions, and the prefix of SoftFloat's functions.
     const INSTRUCTIONS: &'static str;
     const FLOAT: &'static str;
 
@@ -48,8 +48,8 @@ pub trait Operand: machine::Pattern + Soft + Value + Copy + PartialEq + Debug + 
     /// What an accepted call gives with this answer and these flags.
     fn given(answer: Self, flags: u8) -> Self::Given;
 
-    /// One instruction, or two for the inverse root, in the rounding that stands. Not
-    /// left out.
+    /// One instruction, or two for the inverse root, in the rounding that stands, its
+    /// answer through black_box.
     fn instruction(self, operation: u8);
 
     /// The same call of an earlier build, if it can be had.

@@ -80,7 +80,7 @@ fn distance() {
     });
 }
 
-/// Document 01's way from y = 3 * 2^51 to the answer, and the roots of 2.
+/// The reciprocal of 1.5, with no slice at all, and both roots of 2.
 #[test]
 fn rows() {
     assert_eq!(call(RECIPROCAL, 3 << 51, 0, &[]), (0, 768_614_336_404_564_650));
