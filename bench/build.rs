@@ -14,7 +14,10 @@ fn link_before() {
     let earlier = folder.join("libplate.a");
     let out = PathBuf::from(env::var_os("OUT_DIR").unwrap());
     let mut objcopy = Command::new("objcopy");
-    for name in ["plate_raw", "plate_binary32", "plate_list", "plate_lifted_list", "plate_record"] {
+    for name in [
+        "plate_raw", "plate_binary32", "plate_fill_tables", "plate_raw64", "plate_binary64", "plate_list", "plate_lifted_list",
+        "plate_record",
+    ] {
         objcopy.arg("--redefine-sym").arg(format!("{name}=before_{name}"));
     }
     let done = objcopy.arg(&earlier).arg(out.join("libplate_before.a")).status();

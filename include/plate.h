@@ -1,13 +1,16 @@
 /* The plate unit, called from C. Document 01 and requests #101, #102,
-   #104 and #105 of document 02 say what each call answers.
+   #104, #105 and #106 of document 02 say what each call answers.
 
-   Every call takes every value of its numbers and checks them itself. All but
-   plate_record give one 64-bit number:
+   Every call takes every value of its numbers and checks them itself. plate_raw,
+   plate_binary32 and the two list calls give one 64-bit number:
 
      bits  0 to 31   the answer, or the list's length in bytes; 0 after a refusal
      bits 32 to 39   the new status; 0 for the raw and the list calls
      bits 40 to 47   the refusal, 0 if the call was accepted
      bits 48 to 63   0
+
+   plate_raw64 and plate_binary64, whose answers need all 64 bits, and plate_record
+   give a struct; plate_fill_tables gives its refusal alone.
 
    An operation, a rounding, a parity and a status are bytes. C converts a wider
    argument to a byte without a word: 257 becomes 1, and the call never sees
@@ -59,6 +62,55 @@ uint64_t plate_raw(uint8_t operation, uint32_t significand, uint8_t parity);
    the status is the one given. */
 uint64_t plate_binary32(uint8_t operation, uint8_t rounding, uint8_t status,
                         uint32_t bits);
+
+/* How many numbers the tables of the roots of plate_raw64 and plate_binary64 hold,
+   1 MiB in all: 32,768 each for the root with parity 0 and 1, then for the inverse
+   root with parity 0 and 1. */
+#define PLATE_TABLES 131072
+
+/* Fills tables that the caller lends, PLATE_TABLES numbers. Filled once, they may
+   be lent to any number of calls, which only read them. Gives 0, or the refusal 15
+   if entries is not PLATE_TABLES; then every number is kept. The pointer spans
+   entries numbers, is aligned as a uint64_t, and is not null even where entries is
+   0. */
+uint8_t plate_fill_tables(uint64_t *tables, size_t entries);
+
+/* What plate_raw64 gives: refusal 0 and the answer, or a refusal and 0. */
+struct plate_raw64_reply {
+  uint8_t refusal;
+  uint64_t answer;
+};
+
+/* The raw significand unit of binary64. A significand y of 53 bits, from 2^52 to
+   2^53 - 1, stands for y / 2^52; with parity 1 both roots are those of twice that.
+   An answer g stands for g / 2^60, and is less than 12 (reciprocal) or 7 (both
+   roots) of these units from the exact value. Refusals: 1, 3, 4; for both roots
+   then 15, if entries is not PLATE_TABLES, and last 16, if the number in the tables
+   that the call uses is not the one that plate_fill_tables writes there. That is
+   number (2 (operation - 2) + parity) 32768 + significand / 2^37 - 32768, counted
+   from 0; the others are not looked at. The reciprocal looks at none, and takes any
+   entries, 0 too. The pointer is as for plate_fill_tables. */
+struct plate_raw64_reply plate_raw64(uint8_t operation, uint64_t significand,
+                                     uint8_t parity, const uint64_t *tables,
+                                     size_t entries);
+
+/* What plate_binary64 gives: refusal 0, the new status and the answer's bits; or a
+   refusal, the status given, and 0. */
+struct plate_binary64_reply {
+  uint8_t refusal;
+  uint8_t status;
+  uint64_t bits;
+};
+
+/* The binary64 unit. status holds the flags so far. Refusals: 1, 2; for both roots
+   then 15 and 16, as plate_raw64 asks them of the operand's significand and parity.
+   A zero, an infinity, a NaN and a negative operand use no number of the tables:
+   they are refused with 15, but not with 16. The reciprocal takes any entries. The
+   pointer is as for plate_fill_tables. */
+struct plate_binary64_reply plate_binary64(uint8_t operation, uint8_t rounding,
+                                           uint8_t status, uint64_t bits,
+                                           const uint64_t *tables,
+                                           size_t entries);
 
 /* The cutter list of a map, of 12 (w - 2) (d - 2) + 18 bytes; its trailer says
    which rounding made it. The map is only read. After an accepted call the list

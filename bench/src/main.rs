@@ -1,9 +1,9 @@
 //! Times the static library beside other programs for the same answers:
 //!
-//!     cargo run --release                        all three parts
-//!     cargo run --release -- list                one of raw, binary32, list
-//!     cargo run --release --features mpfr        libmpfr in the binary32 part
-//!     cargo run --release --features softfloat   Berkeley SoftFloat in it
+//!     cargo run --release                        all four parts
+//!     cargo run --release -- list                one of raw, binary32, binary64, list
+//!     cargo run --release --features mpfr        libmpfr in binary32 and binary64
+//!     cargo run --release --features softfloat   Berkeley SoftFloat in them
 //!     cargo run --release --features before      an earlier build of the library
 //!
 //! All times are of one core, nanoseconds a call, the best of many rounds. Every
@@ -12,7 +12,7 @@
 
 #[cfg(feature = "before")]
 mod before;
-mod binary32;
+mod formats;
 mod list;
 #[cfg(feature = "mpfr")]
 mod mpfr;
@@ -21,23 +21,25 @@ mod raw;
 mod softfloat;
 mod timing;
 
+const PARTS: [(&str, fn()); 4] = [
+    ("raw", raw::run),
+    ("binary32", formats::binary32),
+    ("binary64", formats::binary64),
+    ("list", list::run),
+];
+
 fn main() {
     let parts: Vec<String> = std::env::args().skip(1).collect();
-    if let Some(unknown) = parts.iter().find(|part| !["raw", "binary32", "list"].contains(&part.as_str())) {
-        eprintln!("unknown part {unknown}: raw, binary32 or list");
+    if let Some(unknown) = parts.iter().find(|part| PARTS.iter().all(|(name, _)| part != name)) {
+        eprintln!("unknown part {unknown}: raw, binary32, binary64 or list");
         std::process::exit(2);
     }
-    let wanted = |name: &str| parts.is_empty() || parts.iter().any(|part| part == name);
     if cfg!(feature = "self") {
         println!("WITHOUT THE LIBRARY: \"unit\" is the Rust reference of tests/rust.\n");
     }
-    if wanted("raw") {
-        raw::run();
-    }
-    if wanted("binary32") {
-        binary32::run();
-    }
-    if wanted("list") {
-        list::run();
+    for (name, run) in PARTS {
+        if parts.is_empty() || parts.iter().any(|part| part == name) {
+            run();
+        }
     }
 }

@@ -1,6 +1,7 @@
 /* The calls through include/plate.h: rows of document 01's table, its example
    written by both list calls and read back, the example as document 01 writes it,
-   a record that is lifted, and a refusal of each call.
+   a record that is lifted, rows of binary64 with their tables filled here, and
+   refusals of each call.
 
      cc -std=c99 -Wall -Wextra -Werror -Iinclude tests/c/calls.c target/staticlib/libplate.a
 */
@@ -42,6 +43,135 @@ static int record_differs(int line, struct plate_record_reply given, struct plat
 
 #define EXPECT_REFUSED(given, number) \
     EXPECT_RECORD(given, .refusal = (number), .rounding = PLATE_ROUNDING_UNKNOWN)
+
+/* A reply of plate_raw64 or plate_binary64, both written as the latter's. */
+static int reply_differs(int line, struct plate_binary64_reply given, struct plate_binary64_reply expected)
+{
+    int same = given.refusal == expected.refusal && given.status == expected.status
+        && given.bits == expected.bits;
+    if (!same)
+        printf("calls.c:%d: %08lx%08lx, status %d, refusal %d\n", line, (unsigned long)(given.bits >> 32),
+               (unsigned long)(given.bits & 0xFFFFFFFF), given.status, given.refusal);
+    return !same;
+}
+
+#define EXPECT_REPLY(given, refusal, status, bits) \
+    if (reply_differs(__LINE__, (given), (struct plate_binary64_reply){(refusal), (status), (bits)})) return 1
+
+/* The tables of binary64, and one number behind them. */
+static uint64_t tables[PLATE_TABLES + 1];
+
+static struct plate_binary64_reply raw64(uint8_t operation, uint64_t significand, uint8_t parity, size_t entries)
+{
+    struct plate_raw64_reply given = plate_raw64(operation, significand, parity, tables, entries);
+    return (struct plate_binary64_reply){given.refusal, 0, given.answer};
+}
+
+/* The answers in the roundings 0 to 3, each with the flags. */
+struct row {
+    uint8_t operation, flags;
+    uint64_t bits, answers[4];
+};
+
+static const struct row rows[] = {
+    {PLATE_RECIPROCAL, PLATE_INEXACT, 0x4008000000000000,
+     {0x3FD5555555555555, 0x3FD5555555555556, 0x3FD5555555555555, 0x3FD5555555555555}},
+    {PLATE_RECIPROCAL, PLATE_INEXACT, 0xC008000000000000,
+     {0xBFD5555555555555, 0xBFD5555555555555, 0xBFD5555555555556, 0xBFD5555555555555}},
+    {PLATE_ROOT, PLATE_INEXACT, 0x4000000000000000,
+     {0x3FF6A09E667F3BCD, 0x3FF6A09E667F3BCD, 0x3FF6A09E667F3BCC, 0x3FF6A09E667F3BCC}},
+    {PLATE_INVERSE_ROOT, 0, 0x4010000000000000,
+     {0x3FE0000000000000, 0x3FE0000000000000, 0x3FE0000000000000, 0x3FE0000000000000}},
+    {PLATE_INVERSE_ROOT, PLATE_INEXACT, 0x3FF0000000000001,
+     {0x3FEFFFFFFFFFFFFF, 0x3FF0000000000000, 0x3FEFFFFFFFFFFFFF, 0x3FEFFFFFFFFFFFFF}},
+    {PLATE_RECIPROCAL, PLATE_OVERFLOW | PLATE_INEXACT, 0x0004000000000000,
+     {0x7FF0000000000000, 0x7FF0000000000000, 0x7FEFFFFFFFFFFFFF, 0x7FEFFFFFFFFFFFFF}},
+    {PLATE_RECIPROCAL, PLATE_INEXACT, 0x0004000000000001,
+     {0x7FEFFFFFFFFFFFF8, 0x7FEFFFFFFFFFFFF9, 0x7FEFFFFFFFFFFFF8, 0x7FEFFFFFFFFFFFF8}},
+    {PLATE_RECIPROCAL, 0, 0x0008000000000000,
+     {0x7FE0000000000000, 0x7FE0000000000000, 0x7FE0000000000000, 0x7FE0000000000000}},
+    {PLATE_RECIPROCAL, 0, 0x7FE0000000000000,
+     {0x0008000000000000, 0x0008000000000000, 0x0008000000000000, 0x0008000000000000}},
+    {PLATE_RECIPROCAL, PLATE_UNDERFLOW | PLATE_INEXACT, 0x7FD0000000000001,
+     {0x000FFFFFFFFFFFFF, 0x0010000000000000, 0x000FFFFFFFFFFFFF, 0x000FFFFFFFFFFFFF}},
+    {PLATE_RECIPROCAL, PLATE_UNDERFLOW | PLATE_INEXACT, 0xFFE0000000000001,
+     {0x8008000000000000, 0x8007FFFFFFFFFFFF, 0x8008000000000000, 0x8007FFFFFFFFFFFF}},
+    {PLATE_ROOT, 0, 1,
+     {0x1E60000000000000, 0x1E60000000000000, 0x1E60000000000000, 0x1E60000000000000}},
+    {PLATE_INVERSE_ROOT, 0, 1,
+     {0x6180000000000000, 0x6180000000000000, 0x6180000000000000, 0x6180000000000000}},
+};
+
+/* The calls of binary64: 0, or 1 after a line about what differs. */
+static int binary64_calls(void)
+{
+    const uint64_t two = 0x4000000000000000, nan = 0x7FF8000000000000;
+    uint64_t entry;
+    uint8_t rounding;
+    size_t k;
+
+    if (sizeof(struct plate_raw64_reply) != 16 || offsetof(struct plate_raw64_reply, answer) != 8
+        || sizeof(struct plate_binary64_reply) != 16 || offsetof(struct plate_binary64_reply, status) != 1
+        || offsetof(struct plate_binary64_reply, bits) != 8)
+        return 1;
+
+    /* A slice of another length is kept. Before the tables are filled no root is answered, but for operands that use none of their numbers. */
+    for (k = 0; k <= PLATE_TABLES; k++)
+        tables[k] = 7 * k + 3;
+    if (plate_fill_tables(tables, 0) != 15 || plate_fill_tables(tables, 1) != 15
+        || plate_fill_tables(tables, PLATE_TABLES - 1) != 15 || plate_fill_tables(tables, PLATE_TABLES + 1) != 15)
+        return 1;
+    for (k = 0; k <= PLATE_TABLES; k++)
+        if (tables[k] != 7 * k + 3)
+            return 1;
+    EXPECT_REPLY(plate_binary64(PLATE_ROOT, PLATE_NEAREST, 255, two, tables, PLATE_TABLES), 16, 255, 0);
+    EXPECT_REPLY(plate_binary64(PLATE_ROOT, PLATE_NEAREST, 0, nan, tables, PLATE_TABLES), 0, 0, nan);
+    EXPECT_REPLY(plate_binary64(PLATE_INVERSE_ROOT, PLATE_UP, 0, 0xC000000000000000, tables, PLATE_TABLES), 0, PLATE_INVALID, nan);
+
+    /* The first number of each table is that of Y = 1: 1 and the root of 2, 1 and its half. */
+    if (plate_fill_tables(tables, PLATE_TABLES) != 0 || tables[PLATE_TABLES] != 7 * PLATE_TABLES + 3
+        || tables[0] != 1152921504606846976 || tables[32768] != 1630477228166597777
+        || tables[65536] != 1152921504606846976 || tables[98304] != 815238614083298888)
+        return 1;
+
+    EXPECT_REPLY(raw64(PLATE_RECIPROCAL, 6755399441055744, 0, PLATE_TABLES), 0, 0, 768614336404564650);
+    EXPECT_REPLY(raw64(PLATE_ROOT, 4503599627370496, 1, PLATE_TABLES), 0, 0, 1630477228166597777);
+    EXPECT_REPLY(raw64(PLATE_INVERSE_ROOT, 4503599627370496, 1, PLATE_TABLES), 0, 0, 815238614083298888);
+    EXPECT_REPLY(raw64(4, 0, 2, 0), 1, 0, 0);
+    EXPECT_REPLY(raw64(PLATE_ROOT, 4503599627370495, 2, 0), 3, 0, 0);
+    EXPECT_REPLY(raw64(PLATE_ROOT, 9007199254740992, 0, PLATE_TABLES), 3, 0, 0);
+    EXPECT_REPLY(raw64(PLATE_RECIPROCAL, 4503599627370496, 1, 0), 4, 0, 0);
+    EXPECT_REPLY(raw64(PLATE_ROOT, 4503599627370496, 2, 0), 4, 0, 0);
+    EXPECT_REPLY(raw64(PLATE_ROOT, 4503599627370496, 0, PLATE_TABLES - 1), 15, 0, 0);
+    EXPECT_REPLY(raw64(PLATE_ROOT, 4503599627370496, 0, PLATE_TABLES + 1), 15, 0, 0);
+
+    /* The other bits of the status given are dropped by an accepted call. */
+    for (k = 0; k < sizeof rows / sizeof *rows; k++)
+        for (rounding = PLATE_NEAREST; rounding <= PLATE_TOWARD_ZERO; rounding++)
+            EXPECT_REPLY(plate_binary64(rows[k].operation, rounding, 224 | PLATE_INVALID, rows[k].bits, tables, PLATE_TABLES),
+                         0, PLATE_INVALID | rows[k].flags, rows[k].answers[rounding]);
+    EXPECT_REPLY(plate_binary64(0, 9, 255, two, tables, 0), 1, 255, 0);
+    EXPECT_REPLY(plate_binary64(PLATE_ROOT, 9, 255, two, tables, PLATE_TABLES - 1), 2, 255, 0);
+    EXPECT_REPLY(plate_binary64(PLATE_ROOT, PLATE_DOWN, 255, two, tables, PLATE_TABLES - 1), 15, 255, 0);
+    EXPECT_REPLY(plate_binary64(PLATE_ROOT, PLATE_DOWN, 32, nan | 1, tables, 0), 15, 32, 0);
+
+    /* One number spoilt: that of the root of 2 Y for Y from 1 up. It is missed only where it is used; a reciprocal uses none. */
+    entry = tables[32768];
+    tables[32768] = entry + 1;
+    EXPECT_REPLY(raw64(PLATE_ROOT, 4503599627370496, 1, PLATE_TABLES), 16, 0, 0);
+    EXPECT_REPLY(raw64(PLATE_ROOT, 4503599627370496 + 137438953471, 1, PLATE_TABLES), 16, 0, 0);
+    EXPECT_REPLY(raw64(PLATE_ROOT, 4503599627370496, 1, PLATE_TABLES - 1), 15, 0, 0);
+    EXPECT_REPLY(raw64(PLATE_ROOT, 4503599627370496, 0, PLATE_TABLES), 0, 0, 1152921504606846976);
+    EXPECT_REPLY(raw64(PLATE_INVERSE_ROOT, 4503599627370496, 1, PLATE_TABLES), 0, 0, 815238614083298888);
+    EXPECT_REPLY(plate_binary64(PLATE_ROOT, PLATE_NEAREST, 1, two, tables, PLATE_TABLES), 16, 1, 0);
+    EXPECT_REPLY(plate_binary64(PLATE_ROOT, PLATE_NEAREST, 1, 2, tables, PLATE_TABLES), 16, 1, 0);
+    EXPECT_REPLY(plate_binary64(PLATE_ROOT, PLATE_NEAREST, 0, 1, tables, PLATE_TABLES), 0, 0, 0x1E60000000000000);
+    EXPECT_REPLY(plate_binary64(PLATE_INVERSE_ROOT, PLATE_UP, 0, 2, tables, PLATE_TABLES), 0, PLATE_INEXACT, 0x6176A09E667F3BCD);
+    EXPECT_REPLY(plate_binary64(PLATE_RECIPROCAL, PLATE_UP, 0, two, tables, 0), 0, 0, 0x3FE0000000000000);
+    tables[32768] = entry;
+    EXPECT_REPLY(raw64(PLATE_ROOT, 4503599627370496, 1, PLATE_TABLES), 0, 0, 1630477228166597777);
+    return 0;
+}
 
 /* Document 01's example: 3 x 3, each row 0, 1,500 and 3,000 high, step 2,000, radius 5,000. */
 static const uint8_t map[52] = {
@@ -105,6 +235,9 @@ int main(void)
     EXPECT(plate_binary32(PLATE_RECIPROCAL, PLATE_UP, 0, 0x00200000), 0x7F800000, PLATE_OVERFLOW | PLATE_INEXACT, 0);
     EXPECT(plate_binary32(PLATE_INVERSE_ROOT, PLATE_NEAREST, 0, 0x40800000), 0x3F000000, 0, 0);
     EXPECT(plate_binary32(PLATE_ROOT, 4, 255, 0x40000000), 0, 255, 2);
+
+    if (binary64_calls() != 0)
+        return 1;
 
     for (k = 0; k < 2; k++) {
         list_call *call = list_calls[k];

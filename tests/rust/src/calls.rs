@@ -19,9 +19,40 @@ pub(crate) struct RecordReply {
     pub z: i32,
 }
 
+/// The struct plate_raw64_reply.
+#[repr(C)]
+pub(crate) struct Raw64Reply {
+    pub refusal: u8,
+    pub answer: u64,
+}
+
+/// The struct plate_binary64_reply.
+#[repr(C)]
+pub(crate) struct Binary64Reply {
+    pub refusal: u8,
+    pub status: u8,
+    pub bits: u64,
+}
+
 extern "C" {
     fn plate_raw(operation: u8, significand: u32, parity: u8) -> u64;
     fn plate_binary32(operation: u8, rounding: u8, status: u8, bits: u32) -> u64;
+    fn plate_fill_tables(tables: *mut u64, entries: usize) -> u8;
+    fn plate_raw64(
+        operation: u8,
+        significand: u64,
+        parity: u8,
+        tables: *const u64,
+        entries: usize,
+    ) -> Raw64Reply;
+    fn plate_binary64(
+        operation: u8,
+        rounding: u8,
+        status: u8,
+        bits: u64,
+        tables: *const u64,
+        entries: usize,
+    ) -> Binary64Reply;
     fn plate_list(
         rounding: u8,
         map: *const u8,
@@ -47,6 +78,27 @@ pub fn raw(operation: u8, significand: u32, parity: u8) -> u64 {
 #[inline]
 pub fn binary32(operation: u8, rounding: u8, status: u8, bits: u32) -> u64 {
     unsafe { plate_binary32(operation, rounding, status, bits) }
+}
+
+/// The refusal.
+#[inline]
+pub fn fill_tables(tables: &mut [u64]) -> u8 {
+    unsafe { plate_fill_tables(tables.as_mut_ptr(), tables.len()) }
+}
+
+/// Refusal and answer.
+#[inline]
+pub fn raw64(operation: u8, significand: u64, parity: u8, tables: &[u64]) -> (u8, u64) {
+    let reply = unsafe { plate_raw64(operation, significand, parity, tables.as_ptr(), tables.len()) };
+    (reply.refusal, reply.answer)
+}
+
+/// Refusal, bits and status.
+#[inline]
+pub fn binary64(operation: u8, rounding: u8, status: u8, bits: u64, tables: &[u64]) -> (u8, u64, u8) {
+    let reply =
+        unsafe { plate_binary64(operation, rounding, status, bits, tables.as_ptr(), tables.len()) };
+    (reply.refusal, reply.bits, reply.status)
 }
 
 /// Either list call.

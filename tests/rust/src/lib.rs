@@ -3,12 +3,15 @@
 
 pub mod calls;
 pub mod chance;
+pub mod formats;
 pub mod machine;
 pub mod maps;
 pub mod reference;
+pub mod slices;
 #[cfg(feature = "self")]
 pub mod stand_in;
 pub mod vectors;
+pub mod wide;
 pub mod work;
 
 /// The 64-bit number that a call gives.

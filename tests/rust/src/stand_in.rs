@@ -3,7 +3,7 @@
 //! with it says nothing about the library; it says that the references agree
 //! with the machine, with the vector files and among themselves.
 
-use crate::calls::{RecordReply, ROUNDING_UNKNOWN};
+use crate::calls::{Binary64Reply, Raw64Reply, RecordReply, ROUNDING_UNKNOWN};
 use crate::{pack, reference};
 
 #[no_mangle]
@@ -16,6 +16,44 @@ extern "C" fn plate_raw(operation: u8, significand: u32, parity: u8) -> u64 {
 extern "C" fn plate_binary32(operation: u8, rounding: u8, status: u8, bits: u32) -> u64 {
     let (refusal, answer, status) = reference::binary32(operation, rounding, bits, status);
     pack(refusal, status, answer)
+}
+
+/// # Safety
+/// The pointer and the length must be those of live numbers.
+#[no_mangle]
+unsafe extern "C" fn plate_fill_tables(tables: *mut u64, entries: usize) -> u8 {
+    reference::fill_tables(std::slice::from_raw_parts_mut(tables, entries))
+}
+
+/// # Safety
+/// The pointer and the length must be those of live numbers.
+#[no_mangle]
+unsafe extern "C" fn plate_raw64(
+    operation: u8,
+    significand: u64,
+    parity: u8,
+    tables: *const u64,
+    entries: usize,
+) -> Raw64Reply {
+    let tables = std::slice::from_raw_parts(tables, entries);
+    let (refusal, answer) = reference::raw64(operation, significand, parity, tables);
+    Raw64Reply { refusal, answer }
+}
+
+/// # Safety
+/// The pointer and the length must be those of live numbers.
+#[no_mangle]
+unsafe extern "C" fn plate_binary64(
+    operation: u8,
+    rounding: u8,
+    status: u8,
+    bits: u64,
+    tables: *const u64,
+    entries: usize,
+) -> Binary64Reply {
+    let tables = std::slice::from_raw_parts(tables, entries);
+    let (refusal, bits, status) = reference::binary64(operation, rounding, bits, status, tables);
+    Binary64Reply { refusal, status, bits }
 }
 
 /// Either list call from its reference.

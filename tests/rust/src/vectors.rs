@@ -2,7 +2,7 @@
 
 use std::path::PathBuf;
 
-use crate::reference::Reading;
+use crate::reference::{tables, Reading};
 
 pub fn file(folder: &str, name: &str) -> Vec<u8> {
     let path = PathBuf::from(env!("CARGO_MANIFEST_DIR"))
@@ -18,9 +18,9 @@ fn lines(folder: &str, name: &str) -> Vec<Vec<String>> {
     text.lines().map(|line| line.split(' ').map(String::from).collect()).collect()
 }
 
-/// The operands of each call of a kind, r or b, and what it gives.
-pub fn calls(kind: &str) -> Vec<(Vec<String>, Vec<String>)> {
-    let (given, expected) = (lines("call_vectors", "stdin"), lines("call_vectors", "stdout"));
+/// The operands of each call of a kind, r, b or t, in a folder, and what it gives.
+pub fn calls(folder: &str, kind: &str) -> Vec<(Vec<String>, Vec<String>)> {
+    let (given, expected) = (lines(folder, "stdin"), lines(folder, "stdout"));
     assert_eq!(given.len(), expected.len());
     let both = given.into_iter().zip(expected);
     both.filter(|(given, _)| given[0] == kind).map(|(given, expected)| (given[1..].to_vec(), expected)).collect()
@@ -74,8 +74,42 @@ pub fn lent(room: usize) -> Vec<u8> {
     (0..room).map(|j| (j * 7 + 3) as u8).collect()
 }
 
-pub fn digest(bytes: &[u8]) -> i64 {
-    bytes.iter().fold(1, |digest, &x| (digest * 257 + x as i64 + 1) % 4_294_967_291)
+/// The digest of bytes, or of numbers of 64 bits.
+pub fn digest<T: Copy + Into<u64>>(numbers: &[T]) -> i64 {
+    const MODULUS: u64 = 4_294_967_291;
+    numbers.iter().fold(1, |digest, &x| (digest * 257 + x.into() % MODULUS + 1) % MODULUS) as i64
+}
+
+/// The numbers that the calls of crates/binary64_vectors are lent the first ones of: the
+/// tables and a 0 behind.
+pub struct Lent(Vec<u64>);
+
+impl Lent {
+    pub fn new() -> Lent {
+        Lent([tables(), &[0]].concat())
+    }
+
+    /// What a call gives with the slice of its words LENGTH PLACE ENTRY: so many numbers,
+    /// with this one at that place.
+    pub fn with<T>(&mut self, words: &[String], call: impl FnOnce(&[u64]) -> T) -> T {
+        let [length, place] = [0, 1].map(|k: usize| words[k].parse::<usize>().unwrap());
+        let entry = u64::from_str_radix(&words[2], 16).unwrap();
+        let kept = self.0.get(place).copied();
+        if kept.is_some() {
+            self.0[place] = entry;
+        }
+        let given = call(&self.0[..length]);
+        if let Some(kept) = kept {
+            assert_eq!(self.0[place], entry, "the slice was written");
+            self.0[place] = kept;
+        }
+        given
+    }
+
+    /// No call has written to a slice.
+    pub fn kept(&self) -> bool {
+        self.0 == Lent::new().0
+    }
 }
 
 pub struct RecordFrame {

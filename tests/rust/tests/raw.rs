@@ -76,7 +76,7 @@ fn refusals() {
 /// The file that the reference program in Python made, against both.
 #[test]
 fn vector_file() {
-    for (given, expected) in vectors::calls("r") {
+    for (given, expected) in vectors::calls("call_vectors", "r") {
         let number = |text: &str| text.parse::<u32>().unwrap();
         let [operation, significand, parity] = [0, 1, 2].map(|k| number(&given[k]));
         let (refusal, answer) = (number(&expected[0]) as u8, number(&expected[1]));
