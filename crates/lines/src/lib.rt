@@ -2,7 +2,7 @@
 ghost use mathlib.Core.Path.{_≡_};
 ghost use Prim.Native.Nat.{_+_, _≤_, _<_, _^_, min};
 ghost use lib.ListN.{length};
-ghost use Rattle.lines.specs.Read.{Read};
+ghost use Rattle.lines.specs.Read.{Passed, Read};
 ghost use Rattle.lines.specs.Hex.{hexDigit, hexOf};
 
 // A number that was read, and the place behind its separator.
@@ -22,10 +22,21 @@ pub fn number_at(s: &[u8], at: usize, base: u64) -> Number
     Number { value, next }
 }
 
+// The hexadecimal number at a place, whose last 64 bits count.
+pub fn long_at(s: &[u8], at: usize) -> Number
+    requires { ⌜ at ≤ length (now s) ⌝ }
+    ensures { λ r. ⌜ Passed (length (now (s .entry))) at (r .next) ⌝ }
+{
+    let end = end_of(s, at, 16);
+    let value = long_of(s, at, end);
+    let next = behind(s, end);
+    Number { value, next }
+}
+
 // The place behind the separator at a place; at the end of the text that place itself.
 pub fn behind(s: &[u8], at: usize) -> usize
     requires { ⌜ at ≤ length (now s) ⌝ }
-    ensures { λ r. ⌜ (min (at + 1) (length (now (s .entry))) ≤ r) × (r ≤ length (now (s .entry))) ⌝ }
+    ensures { λ r. ⌜ Passed (length (now (s .entry))) at r ⌝ }
 {
     if at < s.len() { at + 1 } else { at }
 }
@@ -53,6 +64,18 @@ fn value_of(s: &[u8], at: usize, end: usize, base: u64) -> u64
     let mut i = at;
     while i < end {
         value = appended(value, base, digit(s[i]));
+        i += 1;
+    }
+    value
+}
+
+fn long_of(s: &[u8], at: usize, end: usize) -> u64
+    requires { ⌜ (at ≤ end) × (end ≤ length (now s)) ⌝ }
+{
+    let mut value = 0;
+    let mut i = at;
+    while i < end {
+        value = (value << 4) | digit(s[i]);
         i += 1;
     }
     value

@@ -1,23 +1,27 @@
 // The calls for C. Most give one number, whose bits 0 to 31 are the answer, bits 32 to 39 the status, and the bits from 40 on the number
-// of the refusal; the record call gives a struct.
+// of the refusal; those whose answer is wider or of several parts give a struct.
 ghost use mathlib.Core.Path.{_≡_};
 ghost use lib.ListN.{length};
 ghost use Rattle.kinds.specs.declared.Rule.the-variants.{Touching, Lifted};
-ghost use Rattle.significand.specs.Call.{rawRefusal, rawAnswer};
+ghost use Rattle.significand.specs.Call.{rawRefusal, rawAnswer, fillRefusal, sliceAfter};
 ghost use Rattle.ieee.specs.Call.{binary32Refusal, binary32Bits, binary32Status};
 ghost use Rattle.cutter.specs.Call.{listRefusal, listAnswer, bufferAfter};
 ghost use Rattle.plate.specs.Packed.{packed};
+ghost use Rattle.plate.specs.Raw64.{raw64Call};
 ghost use Rattle.plate.specs.Binary64.{binary64Call, binary64ForC};
 ghost use Rattle.plate.specs.Record.{recordCall, roundingNumber, recordForC};
 use crate::ListRounding;
 use crate::Operation;
+use crate::Raw64Reply;
 use crate::Rounding;
 use crate::Status;
 use crate::binary32;
 use crate::binary64;
+use crate::fill_tables;
 use crate::lifted_list;
 use crate::list;
 use crate::raw;
+use crate::raw64;
 use crate::record;
 
 // The raw call; it has no status, so those bits are 0.
@@ -27,6 +31,28 @@ pub extern "C" fn plate_raw(operation: u8, significand: u32, parity: u8) -> u64
 {
     let r = raw(Operation(operation), significand, parity);
     pack(r.refusal, 0, r.answer)
+}
+
+// The filling call, which gives the refusal alone.
+#[no_mangle]
+pub extern "C" fn plate_fill_tables(tables: &mut [u64]) -> u8
+    ensures { λ r. ⌜ r ≡ fillRefusal (length (now (tables .entry))) ⌝ }
+    ensures { λ _. ⌜ now (tables .exit) ≡ sliceAfter (now (tables .entry)) ⌝ }
+{
+    fill_tables(tables)
+}
+
+// The raw call for significands of 53 bits.
+#[no_mangle]
+pub extern "C" fn plate_raw64(
+    operation: u8,
+    significand: u64,
+    parity: u8,
+    tables: &[u64],
+) -> Raw64Reply
+    ensures { λ r. ⌜ r ≡ raw64Call operation significand parity (now (tables .entry)) ⌝ }
+{
+    raw64(Operation(operation), significand, parity, tables)
 }
 
 // The binary32 call.

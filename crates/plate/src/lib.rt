@@ -5,11 +5,14 @@ mod c;
 
 ghost use mathlib.Core.Path.{_≡_};
 ghost use Prim.Native.Nat.{_≤_};
+ghost use lib.ListN.{length};
 ghost use Rattle.kinds.specs.declared.Rule.the-variants.{Touching, Lifted};
+ghost use Rattle.significand.specs.Call.{fillRefusal, sliceAfter};
 ghost use Rattle.trailer.specs.Kinds.{isRounded};
 ghost use Rattle.reader.specs.Reader.{recordRefusal};
 ghost use Rattle.plate.specs.Status.{raised, cleared};
 ghost use Rattle.plate.specs.Raw.{rawCall};
+ghost use Rattle.plate.specs.Raw64.{raw64Call};
 ghost use Rattle.plate.specs.Binary32.{binary32Call};
 ghost use Rattle.plate.specs.Binary64.{binary64Call};
 ghost use Rattle.plate.specs.List.{ListCall};
@@ -109,6 +112,49 @@ pub fn raw(operation: Operation, significand: u32, parity: u8) -> RawReply
     }
     let answer = raw::answer(Op::of(operation.0), significand, parity);
     RawReply { refusal, answer }
+}
+
+// The filling call: the four tables of M that the roots of raw64 need, put into the lent slice. It gives the number of the one question
+// that it asks, 15, and then the slice holds what it held; or 0.
+pub fn fill_tables(tables: &mut [u64]) -> u8
+    ensures { λ r. ⌜ r ≡ fillRefusal (length (now (tables .entry))) ⌝ }
+    ensures { λ _. ⌜ now (tables .exit) ≡ sliceAfter (now (tables .entry)) ⌝ }
+{
+    if tables.len() != raw64::TABLES {
+        return 15;
+    }
+    filling::fill(tables);
+    0
+}
+
+// What the raw call for significands of 53 bits gives back: refusal 0 with the answer g, which stands for g / 2^60; or the number of a
+// question, with answer 0. C is handed the same struct.
+#[repr(C)]
+pub struct Raw64Reply {
+    pub refusal: u8,
+    pub answer: u64,
+}
+
+// The raw call for significands of 53 bits: an operation on Y = significand / 2^52, or on 2Y where the parity is 1. A root takes its M
+// from the lent tables and tests it; the reciprocal looks at none.
+pub fn raw64(operation: Operation, significand: u64, parity: u8, tables: &[u64]) -> Raw64Reply
+    ensures { λ r. ⌜ r ≡ raw64Call (operation .0) significand parity (now (tables .entry)) ⌝ }
+{
+    let refusal = raw64::door(operation.0, significand, parity, tables.len());
+    if refusal != 0 {
+        return Raw64Reply { refusal, answer: 0 };
+    }
+    let tried = raw64::answer(Op::of(operation.0), significand, parity as u64, tables);
+    if !tried.holds {
+        return Raw64Reply {
+            refusal: 16,
+            answer: 0,
+        };
+    }
+    Raw64Reply {
+        refusal,
+        answer: tried.answer,
+    }
 }
 
 // What the binary32 call gives back: refusal 0 with the answer's bits and the new status; or the number of a question, with bits 0 and
