@@ -1,9 +1,10 @@
-// Reads lines of calls that take lent tables, and writes for each what the call gives. Entries, significands and answers are hexadecimal,
-// and all other numbers decimal.
+// Reads lines of calls that take lent tables, and writes for each what the call gives. Entries, significands, bits and raw answers are
+// hexadecimal, and all other numbers decimal.
 //
 // t LENGTH is the filling call on the first numbers of a slice in which number j holds 7j + 3, and gives refusal and digest of the whole
-// slice after it. r LENGTH PLACE ENTRY, operation, significand and parity is the raw call, and gives refusal and answer: it is lent the
-// first numbers of the filled tables and a 0 behind them, in which the number at the place, if there is one, is the entry for this call.
+// slice after it. r LENGTH PLACE ENTRY, operation, significand and parity is the raw call, and gives refusal and answer; b LENGTH PLACE
+// ENTRY, operation, rounding, bits and status is the binary64 call, and gives refusal, bits and status. These two are lent the first
+// numbers of the filled tables and a 0 behind them, in which the number at the place, if there is one, is the entry for this call.
 ghost use Prim.Native.Nat.{_≤_, _<_};
 ghost use lib.ListN.{length};
 use libc::STDIN_FILENO;
@@ -30,6 +31,15 @@ struct Lent {
     length: usize,
     place: usize,
     entry: u64,
+    next: usize,
+}
+
+// What a line says of a binary64 call, and the place behind that.
+struct Rounded {
+    operation: u8,
+    rounding: u8,
+    bits: u64,
+    status: u8,
     next: usize,
 }
 
@@ -65,7 +75,10 @@ fn answer_line(text: &[u8], at: usize, tables: &mut [u64], numbers: &mut [u64]) 
     if text[at] == b't' {
         return fill(text, operands, numbers);
     }
-    raw64(text, operands, tables)
+    if text[at] == b'r' {
+        return raw64(text, operands, tables);
+    }
+    binary64(text, operands, tables)
 }
 
 // Calls on the operands at a place, and gives the place behind them.
@@ -98,6 +111,42 @@ fn raw64(text: &[u8], at: usize, tables: &mut [u64]) -> usize
     ));
     exchange(tables, lent.place, held);
     parity.next
+}
+
+fn binary64(text: &[u8], at: usize, tables: &mut [u64]) -> usize
+    requires { ⌜ at ≤ length (now text) ⌝ }
+    ensures { λ r. ⌜ (at ≤ r) × (r ≤ length (now (text .entry))) ⌝ }
+{
+    let lent = lent_at(text, at);
+    let call = rounded_at(text, lent.next);
+    let held = exchange(tables, lent.place, lent.entry);
+    let length = least(lent.length, tables.len());
+    show_binary64(plate::binary64(
+        plate::Operation(call.operation),
+        plate::Rounding(call.rounding),
+        call.bits,
+        plate::Status { flags: call.status },
+        &tables[..length],
+    ));
+    exchange(tables, lent.place, held);
+    call.next
+}
+
+fn rounded_at(text: &[u8], at: usize) -> Rounded
+    requires { ⌜ at ≤ length (now text) ⌝ }
+    ensures { λ r. ⌜ (at ≤ r .next) × (r .next ≤ length (now (text .entry))) ⌝ }
+{
+    let operation = number_at(text, at, 10);
+    let rounding = number_at(text, operation.next, 10);
+    let bits = long_at(text, rounding.next);
+    let status = number_at(text, bits.next, 10);
+    Rounded {
+        operation: byte(operation.value),
+        rounding: byte(rounding.value),
+        bits: bits.value,
+        status: byte(status.value),
+        next: status.next,
+    }
 }
 
 fn lent_at(text: &[u8], at: usize) -> Lent
@@ -171,6 +220,15 @@ fn show_raw64(r: plate::Raw64Reply) {
     io::print_decimal(STDOUT_FILENO, r.refusal as u64);
     io::write_all(STDOUT_FILENO, b" ");
     show_long(r.answer);
+    io::write_all(STDOUT_FILENO, b"\n");
+}
+
+fn show_binary64(r: plate::Binary64Reply) {
+    io::print_decimal(STDOUT_FILENO, r.refusal as u64);
+    io::write_all(STDOUT_FILENO, b" ");
+    show_long(r.bits);
+    io::write_all(STDOUT_FILENO, b" ");
+    io::print_decimal(STDOUT_FILENO, r.status.flags as u64);
     io::write_all(STDOUT_FILENO, b"\n");
 }
 
