@@ -1,3 +1,4 @@
 pub mod Results
 pub mod Answers
 pub mod Accepted
+pub mod Filled

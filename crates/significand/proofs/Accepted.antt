@@ -162,7 +162,7 @@ module _ (k t : ℕ) (h : 7 ≤ k) (y p : ℕ) where
   filled-entry InverseRoot o = root-entry InverseRoot refl o
 
 -- and they have the length
-filled-lent : (k : ℕ) (op : Op) → isLent k op (length (tables k)) ≡ true
+pub filled-lent : (k : ℕ) (op : Op) → isLent k op (length (tables k)) ≡ true
 filled-lent k Reciprocal = refl
 filled-lent k Root = eq-eqb _ _ (tables-length k)
 filled-lent k InverseRoot = eq-eqb _ _ (tables-length k)
