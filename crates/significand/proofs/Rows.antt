@@ -1,11 +1,12 @@
--- The raw rows of document 01's table. Assumes nothing.
+-- The raw rows of document 01's table, and rows at k = 15. Assumes nothing.
 use mathlib.Core.Path.{_≡_, refl, sym, _∙_}
 use mathlib.Core.Bool.{true}
 use Prim.Native.Nat.{ℕ}
 use lib.Dec.{T}
 use Rattle.kinds.specs.declared.Op.the-variants.{Root, InverseRoot}
 use Rattle.kinds.specs.Operation.{isOperation, opOf}
-use Rattle.significand.specs.Width.{k32, t32}
+use Rattle.numbers.specs.Greatest.{greatest, greatestFrom}
+use Rattle.significand.specs.Width.{k32, t32, k64, t64}
 use Rattle.significand.specs.Steps.{indexOf, factorOf, signOf, reducedOf, sumOf, multiplierOf, rawOf}
 use Rattle.significand.specs.Call.{isSignificand, isParity, rawAnswer}
 use Rattle.significand.specs.Rows.{Worked}
@@ -15,7 +16,8 @@ use Rattle.significand.proofs.Numerals.{root-entry, inverse-root-entry,
 -- the rows marked P, with what the second works out
 pub record RawRows : Type 0 where
   pub one : rawAnswer 1 8388608 0 ≡ 268435456
-  pub one-and-half : Worked
+  pub one-and-half : Worked k32 t32 12582912 170 1048576 269488144 178956970
+  pub one-and-half-answer : rawAnswer 1 12582912 0 ≡ 178956970
   pub last : rawAnswer 1 16777215 0 ≡ 134217736
   pub root-of-two : rawAnswer 2 8388608 1 ≡ 379625062
   pub inverse-root-of-two : rawAnswer 3 8388608 1 ≡ 189812531
@@ -30,7 +32,8 @@ unfolding indexOf factorOf signOf reducedOf sumOf multiplierOf rawOf
 raw-rows =
     record {
       one = answered 1 8388608 0 tt tt tt;
-      one-and-half = record { factor = refl; sign = refl; reduced = refl; series = refl; answer = answered 1 12582912 0 tt tt tt };
+      one-and-half = record { factor = refl; sign = refl; reduced = refl; series = refl; answer = refl };
+      one-and-half-answer = answered 1 12582912 0 tt tt tt;
       last = answered 1 16777215 0 tt tt tt;
       root-of-two =
           answered 2 8388608 1 tt tt tt
@@ -38,4 +41,19 @@ raw-rows =
       inverse-root-of-two =
           answered 3 8388608 1 tt tt tt
           ∙ sym (answer-is InverseRoot 8388608 1 256 0 189812531 268435456 189812531 true refl refl refl refl (inverse-root-entry 1 128 189812531 tt) refl);
+    }
+
+-- at k = 15: the reciprocal of 1.5 step by step, and both roots of 2
+pub record Raw64Rows : Type 0 where
+  pub one-and-half : Worked k64 t64 6755399441055744 43690 17592186044416 1152939097061330944 768614336404564650
+  pub root-of-two : rawOf k64 t64 Root 4503599627370496 1 ≡ 1630477228166597777
+  pub inverse-root-of-two : rawOf k64 t64 InverseRoot 4503599627370496 1 ≡ 815238614083298888
+
+pub raw64-rows : Raw64Rows
+unfolding indexOf factorOf signOf reducedOf sumOf multiplierOf rawOf greatest greatestFrom
+raw64-rows =
+    record {
+      one-and-half = record { factor = refl; sign = refl; reduced = refl; series = refl; answer = refl };
+      root-of-two = refl;
+      inverse-root-of-two = refl;
     }

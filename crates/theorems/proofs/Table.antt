@@ -28,7 +28,7 @@ pub table : Table
 table =
     record {
       raw-1 = raw-gives 1 8388608 0 268435456 (raw-unrefused 1 8388608 0 tt tt tt) (raw-rows .one);
-      raw-2 = raw-gives 1 12582912 0 178956970 (raw-unrefused 1 12582912 0 tt tt tt) (raw-rows .one-and-half .answer);
+      raw-2 = raw-gives 1 12582912 0 178956970 (raw-unrefused 1 12582912 0 tt tt tt) (raw-rows .one-and-half-answer);
       raw-2-worked = raw-rows .one-and-half;
       raw-3 = raw-gives 1 16777215 0 134217736 (raw-unrefused 1 16777215 0 tt tt tt) (raw-rows .last);
       raw-4 = raw-gives 2 8388608 1 379625062 (raw-unrefused 2 8388608 1 tt tt tt) (raw-rows .root-of-two);

@@ -1,4 +1,5 @@
 pub mod Bracket
 pub mod Table
+pub mod Table64
 pub mod ReadBack
 pub mod Lifted

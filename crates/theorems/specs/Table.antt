@@ -3,6 +3,7 @@ use mathlib.Core.Path.{_≡_}
 use Prim.Native.Nat.{ℕ, _+_, _%_, _≤_}
 use lib.Bits.{bitOr}
 use Rattle.kinds.specs.Flag.{noFlag, overflow, inexact}
+use Rattle.significand.specs.Width.{k32, t32}
 use Rattle.significand.specs.Rows.{Worked}
 use Rattle.cutter.specs.Rows.{OffsetRow}
 use Rattle.plate.specs.declared.Status.{Status}
@@ -22,7 +23,7 @@ Gives operation rounding operand bits flags =
 pub record Table : Type 0 where
   pub raw-1 : RawGives 1 8388608 0 268435456
   pub raw-2 : RawGives 1 12582912 0 178956970
-  pub raw-2-worked : Worked
+  pub raw-2-worked : Worked k32 t32 12582912 170 1048576 269488144 178956970
   pub raw-3 : RawGives 1 16777215 0 134217736
   pub raw-4 : RawGives 2 8388608 1 379625062
   pub raw-5 : RawGives 3 8388608 1 189812531
