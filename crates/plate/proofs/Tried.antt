@@ -1,15 +1,13 @@
 -- The reply of a raw call at k = 15 that is refused at the door, for its entry, or not at all. Assumes nothing.
 use mathlib.Core.Path.{_≡_, refl, sym, _∙_}
-use mathlib.Core.Bool.{true, false, not}
+use mathlib.Core.Bool.{true, false}
 use mathlib.Core.List.{List}
 use Prim.Native.Nat.{ℕ}
 use native.Mathlib.Omega.{arith}
-use borrow.Author.Tests.{not-true, not-false}
 use lib.Dec.{T}
 use lib.ListN.{length}
 use Rattle.kinds.specs.declared.Op.{Op}
 use Rattle.kinds.specs.Operation.{opOf}
-use Rattle.kinds.specs.Question.{ask}
 use Rattle.kinds.proofs.Questions.{ask-yes, ask-no, then-first, then-next}
 use Rattle.significand.specs.Width.{k64, t64, Operand}
 use Rattle.significand.specs.Call.{isLent, isEntry, raw64Door, raw64Refusal}
@@ -42,16 +40,16 @@ module _ (operation y p : ℕ) (table : List ℕ) where
         unfolding triedOf
         entry-told = cc
 
-        pub broken : not (r .holds) ≡ true → record { refusal = 16; answer = 0 } ≡ raw64Call operation y p table
+        pub broken : r .holds ≡ false → record { refusal = 16; answer = 0 } ≡ raw64Call operation y p table
         unfolding raw64Refusal
         broken b =
             refused-with 16
-            (then-next _ _ 16 (sym e ∙ z) (ask-no (isEntry k64 t64 (opOf operation) y p table) 16 0 (entry-told ∙ not-true (r .holds) b)))
+            (then-next _ _ 16 (sym e ∙ z) (ask-no (isEntry k64 t64 (opOf operation) y p table) 16 0 (entry-told ∙ b)))
             (λ q. omega arith)
 
-        pub answered : not (r .holds) ≡ false → record { refusal = n; answer = r .answer } ≡ raw64Call operation y p table
+        pub answered : r .holds ≡ true → record { refusal = n; answer = r .answer } ≡ raw64Call operation y p table
         unfolding raw64Refusal triedOf
         answered b =
-            let yes : isEntry k64 t64 (opOf operation) y p table ≡ true = entry-told ∙ not-false (r .holds) b in
+            let yes : isEntry k64 t64 (opOf operation) y p table ≡ true = entry-told ∙ b in
             let none : 0 ≡ raw64Refusal operation y p table = then-next _ _ 0 (sym e ∙ z) (ask-yes (isEntry k64 t64 (opOf operation) y p table) 16 0 0 yes refl) in
             cc (accepted64-answer operation y p table (sym none))

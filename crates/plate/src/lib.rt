@@ -215,8 +215,8 @@ pub fn binary64(
             status,
         };
     }
-    let rounded = binary64::answer(Op::of(operation.0), Mode::of(rounding.0), bits, tables);
-    if !rounded.holds {
+    let answer = binary64::answer(Op::of(operation.0), Mode::of(rounding.0), bits, tables);
+    if !answer.holds {
         return Binary64Reply {
             refusal: 16,
             bits: 0,
@@ -225,8 +225,8 @@ pub fn binary64(
     }
     Binary64Reply {
         refusal,
-        bits: rounded.bits,
-        status: status.raise(Flag(rounded.flags)),
+        bits: answer.bits,
+        status: status.raise(Flag(answer.flags)),
     }
 }
 

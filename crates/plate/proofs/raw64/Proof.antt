@@ -1,6 +1,7 @@
 -- `plate::raw64` meets its contract: the first "no", the last one too, or the answer. Assumes nothing.
 use Rattle.plate.proofs.Tried.{refused, operand-of, lent-of, broken, answered}
 use borrow.Author.Needs.{needs}
+use borrow.Author.Tests.{not-true, not-false}
 use Rattle.plate.proofs.raw64.Statement.{statement}
 use Rattle.plate.proofs.raw64.Tie as tie
 
@@ -17,10 +18,10 @@ answer-requires : tie.Need-answer-requires
 answer-requires c κs = (search operand-of, search lent-of)
 
 returns-2 : tie.Need-returns-2
-returns-2 c = search broken
+returns-2 c = search (broken, not-true)
 
 returns-3 : tie.Need-returns-3
-returns-3 c = search answered
+returns-3 c = search (answered, not-false)
 
 pub raw64-spec : {M : Type 1} → statement M
 raw64-spec =
