@@ -1,20 +1,19 @@
 -- From an entry of the lent tables, through the raw answer and its floor, to the pattern below the exact result. Assumes nothing.
-use mathlib.Core.Path.{_≡_, refl, sym, ap, _∙_}
-use mathlib.Core.Bool.{Bool, true, false, cond, true≢false}
+use mathlib.Core.Path.{_≡_, refl, sym, _∙_}
+use mathlib.Core.Bool.{true, false, true≢false}
 use mathlib.Core.List.{List}
-use Prim.Native.Nat.{ℕ, suc, _+_, _*_, _-_, _^_, _≤_, _<_}
+use Prim.Native.Nat.{ℕ, _^_, _≤_, _<_}
 use native.Mathlib.Omega.{arith}
 use lib.Dec.{lit≤}
 use Rattle.kinds.specs.declared.Op.{Op}
 use Rattle.kinds.specs.declared.Op.the-variants.{Reciprocal, Root, InverseRoot}
 use Rattle.kinds.specs.Operation.{isReciprocal}
-use Rattle.significand.specs.Width.{k64, t64, Operand}
+use Rattle.significand.specs.Width.{k64, t64}
 use Rattle.significand.specs.Steps.{rawOf}
 use Rattle.significand.specs.Distance.{Near, boundOf}
 use Rattle.significand.specs.Call.{isEntry}
-use Rattle.significand.proofs.Accepted.{raw-near}
+use Rattle.significand.proofs.Accepted.{operand-near}
 use Rattle.ieee.specs.Format.{binary64, magnitudeOf}
-use Rattle.ieee.specs.Floor.{targetOf, Floored}
 use Rattle.ieee.specs.Normalized.{significandOf, evennessOf}
 use Rattle.ieee.proofs.Normalized.{significand-is, parity-is}
 use Rattle.pattern.specs.Operand.{Scaling}
@@ -23,11 +22,10 @@ use Rattle.pattern.specs.declared.operand.Scaled.{Scaled}
 use Rattle.raw64.specs.declared.Tried.{Tried}
 use Rattle.raw64.specs.Tried.{triedOf}
 use Rattle.rounding.specs.Scales.{ScalesOf}
-use Rattle.rounding.specs.Neighbour.{neighbourOf, BelowResult}
+use Rattle.rounding.specs.Neighbour.{BelowResult}
 use Rattle.rounding.specs.declared.scales.Scales.{Scales}
 use Rattle.rounding.specs.declared.neighbour.Neighbour.{Neighbour}
-use Rattle.rounding.proofs.Results.{result-below, floor-small}
-use Rattle.floors64.specs.declared.Floor.{Floor}
+use Rattle.rounding.proofs.Results.{operand-of}
 use Rattle.binary64.specs.Found.{FoundFor}
 
 module _ (t : ℕ) (s : Scaled) (h : Scaling Binary64 (magnitudeOf binary64 t) s) (k : Scales) (tables : List ℕ) where
@@ -54,41 +52,25 @@ module _ (t : ℕ) (s : Scaled) (h : Scaling Binary64 (magnitudeOf binary64 t) s
   entry-same Root sc = same Root refl sc
   entry-same InverseRoot sc = same InverseRoot refl sc
 
-module _ (op : Op) (t : ℕ) (s : Scaled) (h : Scaling Binary64 (magnitudeOf binary64 t) s) (k : Scales) (sc : ScalesOf binary64 op (s .exponent) k) where
-  -- what the raw unit asks
-  pub operand-of : Operand k64 t64 op (s .significand) (k .parity)
-  operand-of = record { significand = h .significand; parity = sc .one-bit; even = sc .even }
+module _ (op : Op) (t : ℕ) (s : Scaled) (h : Scaling Binary64 (magnitudeOf binary64 t) s) (k : Scales) (sc : ScalesOf binary64 op (s .exponent) k)
+    (tables : List ℕ) (g : Tried) (eg : g ≡ triedOf op (s .significand) (k .parity) tables) where
+  -- the entry that the raw unit tests
+  tested : g .holds ≡ isEntry k64 t64 op (s .significand) (k .parity) tables
+  unfolding triedOf
+  tested = rw eg
 
-  module _ (tables : List ℕ) (g : Tried) (eg : g ≡ triedOf op (s .significand) (k .parity) tables) where
-    -- the entry that the raw unit tests
-    tested : g .holds ≡ isEntry k64 t64 op (s .significand) (k .parity) tables
-    unfolding triedOf
-    tested = rw eg
+  -- where it is M, the answer is the raw one,
+  answer-is : g .holds ≡ true → g .answer ≡ rawOf k64 t64 op (s .significand) (k .parity)
+  unfolding triedOf
+  answer-is e = rw (eg, sym tested ∙ e)
 
-    -- where it is M, the answer is the raw one,
-    answer-is : g .holds ≡ true → g .answer ≡ rawOf k64 t64 op (s .significand) (k .parity)
-    unfolding triedOf
-    answer-is e = rw (eg, sym tested ∙ e)
+  -- which is near
+  pub near-of : g .holds ≡ true → Near op k64 t64 (s .significand) (k .parity) (boundOf op) (g .answer)
+  near-of e = operand-near k64 t64 (omega arith) op (s .significand) (k .parity) (g .answer) (operand-of Binary64 t s h op k sc) (answer-is e)
 
-    -- which is near
-    pub near-of : g .holds ≡ true → Near op k64 t64 (s .significand) (k .parity) (boundOf op) (g .answer)
-    near-of e = raw-near k64 t64 (omega arith) op (s .significand) (k .parity) (g .answer) (h .significand) (sc .one-bit) (answer-is e)
+  pub not-found : (n : Neighbour) → g .holds ≡ false → FoundFor op t tables (record { holds = false; neighbour = n })
+  not-found n e =
+      record { held = sym e ∙ tested ∙ entry-same t s h k tables op sc; below = λ z. absurd (true≢false (sym z)) }
 
-    pub not-found : (n : Neighbour) → g .holds ≡ false → FoundFor op t tables (record { holds = false; neighbour = n })
-    not-found n e =
-        record { held = sym e ∙ tested ∙ entry-same t s h k tables op sc; below = λ z. absurd (true≢false (sym z)) }
-
-    pub found : (q : Floor) (n : Neighbour) → Floored op (s .significand) (targetOf 52 op (s .significand) (k .parity)) (q .quotient) (q .more)
-        → g .holds ≡ true → n ≡ neighbourOf binary64 (q .quotient) (q .more) (k .scale)
-        → FoundFor op t tables (record { holds = true; neighbour = n })
-    found q n floor e en =
-        record {
-          held = sym e ∙ tested ∙ entry-same t s h k tables op sc;
-          below = λ z.
-              result-below Binary64 t s h op (q .quotient) (q .more) n
-              (rw (sc .parity-is) at floor) (en ∙ ap (neighbourOf binary64 (q .quotient) (q .more)) (sc .scale-is));
-        }
-
-  -- a floor has 54 bits, or is 2^54
-  pub floor-most : (q : Floor) → Floored op (s .significand) (targetOf 52 op (s .significand) (k .parity)) (q .quotient) (q .more) → q .quotient ≤ 2 ^ 54
-  floor-most q floor = floor-small Binary64 op (s .significand) (k .parity) (q .quotient) (q .more) (h .significand) (sc .one-bit) floor
+  pub found : (n : Neighbour) → g .holds ≡ true → BelowResult binary64 op t n → FoundFor op t tables (record { holds = true; neighbour = n })
+  found n e below = record { held = sym e ∙ tested ∙ entry-same t s h k tables op sc; below = λ z. below }

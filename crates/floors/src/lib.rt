@@ -2,15 +2,28 @@
 ghost use mathlib.Core.Path.{_≡_};
 ghost use Prim.Native.Nat.{_^_, _≤_, _<_};
 ghost use Rattle.kinds.specs.declared.Op.the-variants.{Reciprocal, Root, InverseRoot};
-ghost use Rattle.significand.specs.Width.{k32, t32, Significand};
+ghost use Rattle.significand.specs.Width.{k32, t32, Significand, Operand};
 ghost use Rattle.significand.specs.Distance.{Near, boundOf};
 ghost use Rattle.ieee.specs.Floor.{targetOf};
 ghost use Rattle.floors.specs.Floor.{Reached, Stepped, remainderOf};
+use kinds::Op;
 
 // A number at or below the floor, and what its product leaves of the target.
 pub struct Partial {
     pub quotient: u64,
     pub left: u64,
+}
+
+// The floor of each operation's target.
+pub fn floor_of(op: Op, y: u64, p: u64, g: u64) -> Partial
+    requires { ⌜ Operand k32 t32 op y p × (g < 2 ^ 32) × Near op k32 t32 y p (boundOf op) g ⌝ }
+    ensures { λ r. ⌜ Reached op y (targetOf 23 op y p) r 0 ⌝ }
+{
+    match op {
+        Op::Reciprocal => reciprocal(y, g),
+        Op::Root => root(y, p, g),
+        Op::InverseRoot => inverse_root(y, p, g),
+    }
 }
 
 // One step up where the remainder has room for it.
@@ -28,7 +41,7 @@ fn step(x: Partial, amount: u64) -> Partial
 }
 
 // 2^48 / y: three steps are enough.
-pub fn reciprocal(y: u64, g: u64) -> Partial
+fn reciprocal(y: u64, g: u64) -> Partial
     requires { ⌜ Significand k32 t32 y × (g < 2 ^ 32) × Near Reciprocal k32 t32 y 0 (boundOf Reciprocal) g ⌝ }
     ensures { λ r. ⌜ Reached Reciprocal y (targetOf 23 Reciprocal y 0) r 0 ⌝ }
 {
@@ -41,7 +54,7 @@ pub fn reciprocal(y: u64, g: u64) -> Partial
 }
 
 // The root of y × 2^(25 + p): one step is enough.
-pub fn root(y: u64, p: u64, g: u64) -> Partial
+fn root(y: u64, p: u64, g: u64) -> Partial
     requires { ⌜ Significand k32 t32 y × (p ≤ 1) × (g < 2 ^ 32) × Near Root k32 t32 y p (boundOf Root) g ⌝ }
     ensures { λ r. ⌜ Reached Root y (targetOf 23 Root y p) r 0 ⌝ }
 {
@@ -54,7 +67,7 @@ pub fn root(y: u64, p: u64, g: u64) -> Partial
 }
 
 // The root of 2^(73 - p) / y: two steps are enough.
-pub fn inverse_root(y: u64, p: u64, g: u64) -> Partial
+fn inverse_root(y: u64, p: u64, g: u64) -> Partial
     requires { ⌜ Significand k32 t32 y × (p ≤ 1) × (g < 2 ^ 32) × Near InverseRoot k32 t32 y p (boundOf InverseRoot) g ⌝ }
     ensures { λ r. ⌜ Reached InverseRoot y (targetOf 23 InverseRoot y p) r 0 ⌝ }
 {

@@ -28,6 +28,9 @@ use Rattle.significand.proofs.Tables.{tables-length, entry-placed}
 pub raw-near : (k t : ℕ) → 7 ≤ k → (op : Op) (y p g : ℕ) → Significand k t y → p ≤ 1 → g ≡ rawOf k t op y p → Near op k t y p (boundOf op) g
 raw-near k t h op y p g Y parity e = rw e (distance op k t y p h parity Y)
 
+pub operand-near : (k t : ℕ) → 7 ≤ k → (op : Op) (y p g : ℕ) → Operand k t op y p → g ≡ rawOf k t op y p → Near op k t y p (boundOf op) g
+operand-near k t h op y p g o e = raw-near k t h op y p g (o .significand) (o .parity) e
+
 -- the questions, each worked out by itself
 pub refusal-is : (operation y p q r s : ℕ) (op : Op) (known reciprocal : Bool)
     → known ≡ isOperation operation

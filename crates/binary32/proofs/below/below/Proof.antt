@@ -1,46 +1,51 @@
--- `binary32::below::below` meets its contract: each operation has its own function. Assumes nothing.
+-- `binary32::below::below` meets its contract: the raw answer is near, and the floor that it leads to gives the neighbour. Assumes nothing.
 use borrow.Author.Needs.{needs}
-use Rattle.binary32.proofs.Results.{below-case}
+use lib.Dec.{lit≤}
+use Rattle.significand.specs.Width.{k32, t32}
+use Rattle.significand.proofs.Accepted.{operand-near}
+use Rattle.pattern.specs.declared.Width.the-variants.{Binary32}
+use Rattle.floors.proofs.Reaching.{floored}
+use Rattle.rounding.proofs.Results.{operand-of, floor-most, result-below}
 use Rattle.binary32.proofs.below.below.Statement.{statement}
 use Rattle.binary32.proofs.below.below.Tie as tie
 
-enum-told : tie.Need-enum-told
-enum-told c = search needs
+scale-requires : tie.Need-scale-requires
+scale-requires c κs = search needs
 
-reciprocal-requires : tie.Need-reciprocal-requires
-reciprocal-requires c κs = search needs
+scales-of-requires : tie.Need-scales-of-requires
+scales-of-requires c κs = search needs
 
-enum-told-2 : tie.Need-enum-told-2
-enum-told-2 c = search needs
+cast-answer : tie.Need-cast-answer
+cast-answer c = search needs
 
-root-requires : tie.Need-root-requires
-root-requires c κs = search needs
+cast-answer-2 : tie.Need-cast-answer-2
+cast-answer-2 c = search needs
 
-enum-told-3 : tie.Need-enum-told-3
-enum-told-3 c = search needs
+answer-requires : tie.Need-answer-requires
+answer-requires c κs = search needs
 
-inverse-root-requires : tie.Need-inverse-root-requires
-inverse-root-requires c κs = search needs
+cast-g : tie.Need-cast-g
+cast-g c = search needs
+
+floor-of-requires : tie.Need-floor-of-requires
+floor-of-requires c κs = (search (operand-of Binary32), search needs, search (operand-near k32 t32 (lit≤ tt), operand-of Binary32))
+
+lower-requires : tie.Need-lower-requires
+lower-requires c κs = (search (floor-most Binary32, floored), search needs)
 
 returns : tie.Need-returns
-returns c = search below-case
-
-returns-2 : tie.Need-returns-2
-returns-2 c = search below-case
-
-returns-3 : tie.Need-returns-3
-returns-3 c = search below-case
+returns c = search (result-below Binary32, floored)
 
 pub below-spec : {M : Type 1} → statement M
 below-spec =
     tie.close
     (tie.spec
-    enum-told
-    reciprocal-requires
-    enum-told-2
-    root-requires
-    enum-told-3
-    inverse-root-requires
-    returns
-    returns-2
-    returns-3)
+    scale-requires
+    scales-of-requires
+    cast-answer
+    cast-answer-2
+    answer-requires
+    cast-g
+    floor-of-requires
+    lower-requires
+    returns)

@@ -1,7 +1,9 @@
 -- `binary64::below::below` meets its contract: the raw answer is near, and the floor that it leads to gives the neighbour. Assumes nothing.
 use borrow.Author.Needs.{needs}
 use borrow.Author.Tests.{not-true, not-false}
-use Rattle.binary64.proofs.Results.{operand-of, near-of, not-found, found, floor-most}
+use Rattle.pattern.specs.declared.Width.the-variants.{Binary64}
+use Rattle.rounding.proofs.Results.{operand-of, floor-most, result-below}
+use Rattle.binary64.proofs.Results.{near-of, not-found, found}
 use Rattle.binary64.proofs.below.below.Statement.{statement}
 use Rattle.binary64.proofs.below.below.Tie as tie
 
@@ -21,13 +23,13 @@ returns : tie.Need-returns
 returns c = search (not-found, not-true)
 
 floor-of-requires : tie.Need-floor-of-requires
-floor-of-requires c κs = (search operand-of, search (near-of, not-false))
+floor-of-requires c κs = (search (operand-of Binary64), search (near-of, not-false))
 
 lower-requires : tie.Need-lower-requires
-lower-requires c κs = (search floor-most, search needs)
+lower-requires c κs = (search (floor-most Binary64), search needs)
 
 returns-2 : tie.Need-returns-2
-returns-2 c = search (found, not-false)
+returns-2 c = search (found, result-below Binary64, not-false)
 
 pub below-spec : {M : Type 1} → statement M
 below-spec =

@@ -1,0 +1,46 @@
+-- `floors::floor_of` meets its contract: each operation has its own function. Assumes nothing.
+use borrow.Author.Needs.{needs}
+use Rattle.floors.proofs.Cases.{near-case, near-reciprocal, reached-case}
+use Rattle.floors.proofs.floor_of.Statement.{statement}
+use Rattle.floors.proofs.floor_of.Tie as tie
+
+enum-told : tie.Need-enum-told
+enum-told c = search needs
+
+reciprocal-requires : tie.Need-reciprocal-requires
+reciprocal-requires c κs = (search needs, search needs, search near-reciprocal)
+
+enum-told-2 : tie.Need-enum-told-2
+enum-told-2 c = search needs
+
+root-requires : tie.Need-root-requires
+root-requires c κs = (search needs, search needs, search needs, search near-case)
+
+enum-told-3 : tie.Need-enum-told-3
+enum-told-3 c = search needs
+
+inverse-root-requires : tie.Need-inverse-root-requires
+inverse-root-requires c κs = (search needs, search needs, search needs, search near-case)
+
+returns : tie.Need-returns
+returns c = search reached-case
+
+returns-2 : tie.Need-returns-2
+returns-2 c = search reached-case
+
+returns-3 : tie.Need-returns-3
+returns-3 c = search reached-case
+
+pub floor-of-spec : {M : Type 1} → statement M
+floor-of-spec =
+    tie.close
+    (tie.spec
+    enum-told
+    reciprocal-requires
+    enum-told-2
+    root-requires
+    enum-told-3
+    inverse-root-requires
+    returns
+    returns-2
+    returns-3)
