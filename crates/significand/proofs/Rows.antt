@@ -1,12 +1,11 @@
--- The raw rows of document 01's table, and rows at k = 15. Assumes nothing.
+-- The raw rows of document 01's table. Assumes nothing.
 use mathlib.Core.Path.{_≡_, refl, sym, _∙_}
 use mathlib.Core.Bool.{true}
 use Prim.Native.Nat.{ℕ}
 use lib.Dec.{T}
 use Rattle.kinds.specs.declared.Op.the-variants.{Root, InverseRoot}
 use Rattle.kinds.specs.Operation.{isOperation, opOf}
-use Rattle.numbers.specs.Greatest.{greatest, greatestFrom}
-use Rattle.significand.specs.Width.{k32, t32, k64, t64}
+use Rattle.significand.specs.Width.{k32, t32}
 use Rattle.significand.specs.Steps.{indexOf, factorOf, signOf, reducedOf, sumOf, multiplierOf, rawOf}
 use Rattle.significand.specs.Call.{isSignificand, isParity, rawAnswer}
 use Rattle.significand.specs.Rows.{Worked}
@@ -41,19 +40,4 @@ raw-rows =
       inverse-root-of-two =
           answered 3 8388608 1 tt tt tt
           ∙ sym (answer-is InverseRoot 8388608 1 256 0 189812531 268435456 189812531 true refl refl refl refl (inverse-root-entry 1 128 189812531 tt) refl);
-    }
-
--- at k = 15: the reciprocal of 1.5 step by step, and both roots of 2
-pub record Raw64Rows : Type 0 where
-  pub one-and-half : Worked k64 t64 6755399441055744 43690 17592186044416 1152939097061330944 768614336404564650
-  pub root-of-two : rawOf k64 t64 Root 4503599627370496 1 ≡ 1630477228166597777
-  pub inverse-root-of-two : rawOf k64 t64 InverseRoot 4503599627370496 1 ≡ 815238614083298888
-
-pub raw64-rows : Raw64Rows
-unfolding indexOf factorOf signOf reducedOf sumOf multiplierOf rawOf greatest greatestFrom
-raw64-rows =
-    record {
-      one-and-half = record { factor = refl; sign = refl; reduced = refl; series = refl; answer = refl };
-      root-of-two = refl;
-      inverse-root-of-two = refl;
     }
