@@ -1,5 +1,6 @@
--- The rows of document 01's table on patterns. Assumes nothing.
+-- The rows of document 01's table on patterns, and the rows of binary64. Assumes nothing.
 use mathlib.Core.Path.{_≡_, refl}
+use mathlib.Core.List.{List, [], _∷_}
 use Prim.Native.Nat.{ℕ, _+_}
 use Rattle.kinds.specs.declared.Op.{Op}
 use Rattle.kinds.specs.declared.Op.the-variants.{Reciprocal, Root, InverseRoot}
@@ -11,6 +12,7 @@ use Rattle.numbers.specs.Greatest.{greatest, greatestFrom}
 use Rattle.ieee.specs.Format.{binary32, magnitudeOf}
 use Rattle.ieee.specs.Rounded.{fits, lowerOf, placeAt, roundedOf, isInexact, isOverflow, isUnderflow, flagsOf}
 use Rattle.ieee.specs.Answer.{answer, answerOf}
+use Rattle.ieee.specs.Rows64.{Row, rows64, Every, Answers}
 
 -- the lower and the upper answer to a pattern, both with the flags given
 pub record Pair (op : Op) (operand lower upper flags : ℕ) : Type 0 where
@@ -47,3 +49,52 @@ pattern-rows =
       overflowing = record { down-is = refl; up-is = refl };
       subnormal = record { each = each-mode (λ (m : Mode). answerOf binary32 Reciprocal m 0x7F000000 ≡ answer 0x00400000 noFlag) refl refl refl refl };
     }
+
+-- every rule, for each row of a list that has another
+pub every : (P Q : Row → Type 0) → ((r : Row) → P r → Q r) → (l : List Row) → Every P l → Every Q l
+every P Q f [] h = tt
+every P Q f (r ∷ rs) h = (f r (h .0), every P Q f rs (h .1))
+
+-- the rows of binary64, computed
+pub rows64-answered : Every Answers rows64
+unfolding answerOf roundedOf lowerOf placeAt isInexact isOverflow isUnderflow flagsOf fits magnitudeOf away placeBy roundedBy greatest greatestFrom
+rows64-answered = (
+  record { to-nearest = refl; to-up = refl; to-down = refl; to-zero = refl },
+  (
+    record { to-nearest = refl; to-up = refl; to-down = refl; to-zero = refl },
+    (
+      record { to-nearest = refl; to-up = refl; to-down = refl; to-zero = refl },
+      (
+        record { to-nearest = refl; to-up = refl; to-down = refl; to-zero = refl },
+        (
+          record { to-nearest = refl; to-up = refl; to-down = refl; to-zero = refl },
+          (
+            record { to-nearest = refl; to-up = refl; to-down = refl; to-zero = refl },
+            (
+              record { to-nearest = refl; to-up = refl; to-down = refl; to-zero = refl },
+              (
+                record { to-nearest = refl; to-up = refl; to-down = refl; to-zero = refl },
+                (
+                  record { to-nearest = refl; to-up = refl; to-down = refl; to-zero = refl },
+                  (
+                    record { to-nearest = refl; to-up = refl; to-down = refl; to-zero = refl },
+                    (
+                      record { to-nearest = refl; to-up = refl; to-down = refl; to-zero = refl },
+                      (
+                        record { to-nearest = refl; to-up = refl; to-down = refl; to-zero = refl },
+                        (
+                          record { to-nearest = refl; to-up = refl; to-down = refl; to-zero = refl },
+                          tt,
+                        ),
+                      ),
+                    ),
+                  ),
+                ),
+              ),
+            ),
+          ),
+        ),
+      ),
+    ),
+  ),
+)

@@ -7,3 +7,4 @@ pub mod Bracket
 pub mod Guarded
 pub mod Floor
 pub mod Normalized
+pub mod Rows64
