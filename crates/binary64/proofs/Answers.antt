@@ -12,7 +12,7 @@ use Rattle.significand.specs.Width.{k64, t64}
 use Rattle.significand.specs.Call.{isLent, isEntry}
 use Rattle.ieee.specs.Format.{binary64, infinity, magnitudeOf}
 use Rattle.ieee.specs.Answer.{isSpecial, answerOf}
-use Rattle.ieee.specs.Normalized.{significandOf, evennessOf}
+use Rattle.ieee.specs.Normalized.{significandOf, exponentParity}
 use Rattle.pattern.specs.Parts.{PartsOf}
 use Rattle.pattern.specs.Answer.{Answered}
 use Rattle.pattern.specs.declared.Width.the-variants.{Binary64}
@@ -48,7 +48,7 @@ module _ (op : Op) (mode : Mode) (b : ℕ) (tables : List ℕ) (x : Parts) (s : 
     (es : s ≡ isSpecial binary64 op (x .sign) (x .unsigned)) where
   -- question 16 by the parts of the pattern
   served : isServed op b tables
-      ≡ s || isEntry k64 t64 op (significandOf binary64 (magnitudeOf binary64 (x .unsigned))) (evennessOf binary64 (magnitudeOf binary64 (x .unsigned))) tables
+      ≡ s || isEntry k64 t64 op (significandOf binary64 (magnitudeOf binary64 (x .unsigned))) (exponentParity binary64 (magnitudeOf binary64 (x .unsigned))) tables
   unfolding isServed
   served = rw (es, p .sign, p .unsigned)
 

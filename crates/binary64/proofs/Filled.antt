@@ -16,12 +16,12 @@ use Rattle.kinds.specs.Question.{ask}
 use Rattle.kinds.proofs.Questions.{asked, ask-yes, then-next}
 use Rattle.significand.specs.Width.{k64, t64, Significand}
 use Rattle.significand.specs.Steps.{indexOf}
-use Rattle.significand.specs.Tables.{tables, placeOf}
+use Rattle.significand.specs.Tables.{tables, entryPlace}
 use Rattle.significand.specs.Call.{isLent, isEntry}
 use Rattle.significand.proofs.Accepted.{filled-entry, filled-lent}
 use Rattle.ieee.specs.Format.{binary64, magnitudeOf}
 use Rattle.ieee.specs.Answer.{signBitOf, unsigned, isSpecial}
-use Rattle.ieee.specs.Normalized.{significandOf, evennessOf}
+use Rattle.ieee.specs.Normalized.{significandOf, exponentParity}
 use Rattle.ieee.proofs.Normalized.{significand-is}
 use Rattle.pattern.specs.Width.{ConstantsOf}
 use Rattle.pattern.specs.Operand.{Ordinary, Scaling}
@@ -68,8 +68,8 @@ module _ (t : ℕ) (o : Ordinary binary64 t) where
       (λ h. from-scaling _ (normal-scaled Binary64 parts constants constants-are o (record { exponent = refl; fraction = refl }) h))
 
   root-entry : (op : Op) → isReciprocal op ≡ false
-      → isEntry k64 t64 op (significandOf binary64 (magnitudeOf binary64 t)) (evennessOf binary64 (magnitudeOf binary64 t)) (tables k64) ≡ true
-  unfolding evennessOf
+      → isEntry k64 t64 op (significandOf binary64 (magnitudeOf binary64 t)) (exponentParity binary64 (magnitudeOf binary64 t)) (tables k64) ≡ true
+  unfolding exponentParity
   root-entry op root =
       filled-entry k64 t64 (omega arith) _ _ op
       (record {
@@ -80,7 +80,7 @@ module _ (t : ℕ) (o : Ordinary binary64 t) where
 
   -- and uses an entry that the filled tables have
   pub ordinary-entry : (op : Op)
-      → isEntry k64 t64 op (significandOf binary64 (magnitudeOf binary64 t)) (evennessOf binary64 (magnitudeOf binary64 t)) (tables k64) ≡ true
+      → isEntry k64 t64 op (significandOf binary64 (magnitudeOf binary64 t)) (exponentParity binary64 (magnitudeOf binary64 t)) (tables k64) ≡ true
   unfolding isEntry
   ordinary-entry Reciprocal = refl
   ordinary-entry Root = root-entry Root refl
@@ -93,7 +93,7 @@ module _ (b : ℕ) where
   filled-served op = by (isSpecial binary64 op (signBitOf binary64 b) (unsigned binary64 b)) refl
     where
       by : (s : Bool) → s ≡ isSpecial binary64 op (signBitOf binary64 b) (unsigned binary64 b)
-          → s || isEntry k64 t64 op (significandOf binary64 (magnitude b)) (evennessOf binary64 (magnitude b)) (tables k64) ≡ true
+          → s || isEntry k64 t64 op (significandOf binary64 (magnitude b)) (exponentParity binary64 (magnitude b)) (tables k64) ≡ true
       by true e = refl
       by false e = ordinary-entry (unsigned binary64 b) (ordinary-is binary64 op (signBitOf binary64 b) (unsigned binary64 b) false e refl) op
 
@@ -108,8 +108,8 @@ module _ (b : ℕ) where
 
 -- any slice: its length and the entry that the operand uses are all that a call depends on
 module _ (operation rounding b : ℕ) (m n : List ℕ) (long : length m ≡ length n)
-    (entry : getD m (placeOf k64 (opOf operation) (evennessOf binary64 (magnitude b)) (indexOf k64 t64 (significandOf binary64 (magnitude b)))) 0
-    ≡ getD n (placeOf k64 (opOf operation) (evennessOf binary64 (magnitude b)) (indexOf k64 t64 (significandOf binary64 (magnitude b)))) 0) where
+    (entry : getD m (entryPlace k64 (opOf operation) (exponentParity binary64 (magnitude b)) (indexOf k64 t64 (significandOf binary64 (magnitude b)))) 0
+    ≡ getD n (entryPlace k64 (opOf operation) (exponentParity binary64 (magnitude b)) (indexOf k64 t64 (significandOf binary64 (magnitude b)))) 0) where
   pub same-refusal : binary64Refusal operation rounding b m ≡ binary64Refusal operation rounding b n
   unfolding binary64Refusal isServed isEntry
   same-refusal = rw (long, entry)

@@ -14,7 +14,7 @@ use Rattle.significand.specs.Distance.{Near, boundOf}
 use Rattle.significand.specs.Call.{isEntry}
 use Rattle.significand.proofs.Accepted.{operand-near}
 use Rattle.ieee.specs.Format.{binary64, magnitudeOf}
-use Rattle.ieee.specs.Normalized.{significandOf, evennessOf}
+use Rattle.ieee.specs.Normalized.{significandOf, exponentParity}
 use Rattle.ieee.proofs.Normalized.{significand-is, parity-is}
 use Rattle.pattern.specs.Operand.{Scaling}
 use Rattle.pattern.specs.declared.Width.the-variants.{Binary64}
@@ -32,7 +32,7 @@ module _ (t : ℕ) (s : Scaled) (h : Scaling Binary64 (magnitudeOf binary64 t) s
   -- the entry of a root's scaled operand is that of the significand and the parity of its magnitude
   same : (op : Op) → isReciprocal op ≡ false → ScalesOf binary64 op (s .exponent) k
       → isEntry k64 t64 op (s .significand) (k .parity) tables
-      ≡ isEntry k64 t64 op (significandOf binary64 (magnitudeOf binary64 t)) (evennessOf binary64 (magnitudeOf binary64 t)) tables
+      ≡ isEntry k64 t64 op (significandOf binary64 (magnitudeOf binary64 t)) (exponentParity binary64 (magnitudeOf binary64 t)) tables
   same op root sc =
       let x = magnitudeOf binary64 t in
       let few : s .exponent < 2 ^ 12 = omega (arith, h .small) in
@@ -46,7 +46,7 @@ module _ (t : ℕ) (s : Scaled) (h : Scaling Binary64 (magnitudeOf binary64 t) s
   -- the reciprocal uses none
   entry-same : (op : Op) → ScalesOf binary64 op (s .exponent) k
       → isEntry k64 t64 op (s .significand) (k .parity) tables
-      ≡ isEntry k64 t64 op (significandOf binary64 (magnitudeOf binary64 t)) (evennessOf binary64 (magnitudeOf binary64 t)) tables
+      ≡ isEntry k64 t64 op (significandOf binary64 (magnitudeOf binary64 t)) (exponentParity binary64 (magnitudeOf binary64 t)) tables
   unfolding isEntry
   entry-same Reciprocal sc = refl
   entry-same Root sc = same Root refl sc

@@ -14,7 +14,7 @@ use Rattle.kinds.specs.Operation.{isReciprocal}
 use Rattle.numbers.proofs.Exponents.{power-of}
 use Rattle.numbers.proofs.Greatest.{Antitone, greatest-is}
 use Rattle.ieee.specs.Format.{Format, unitOf}
-use Rattle.ieee.specs.Normalized.{highestOf, significandOf, evennessOf}
+use Rattle.ieee.specs.Normalized.{highestOf, significandOf, exponentParity}
 use Rattle.ieee.specs.Floor.{parityOf}
 
 -- the parities of both roots over m and u
@@ -60,8 +60,8 @@ module _ (f : Format) (x y j : ℕ) (is : x * 2 ^ f .fractionBits ≡ y * 2 ^ j)
 
   -- and the parity of a root is that of the exponent
   pub parity-is : (op : Op) → isReciprocal op ≡ false → 4 * f .fractionBits + 4 ≤ unitOf f → j ≤ 2 * unitOf f + 1 - f .fractionBits
-      → parityOf f op j ≡ evennessOf f x
-  unfolding evennessOf
+      → parityOf f op j ≡ exponentParity f x
+  unfolding exponentParity
   parity-is Reciprocal e wide small = absurd (true≢false e)
   parity-is Root e wide small = rw highest-is (root-even m (unitOf f) j wide)
   parity-is InverseRoot e wide small = rw highest-is (inverse-even m (unitOf f) j wide small)

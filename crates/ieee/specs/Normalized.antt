@@ -13,5 +13,5 @@ unfoldable pub significandOf : Format → ℕ → ℕ
 significandOf f x = x * 2 ^ f .fractionBits / 2 ^ highestOf f x
 
 -- x counts units of 2^-u, so that the value is Y × 2^(highest − u), and the parity that of the exponent
-unfoldable pub evennessOf : Format → ℕ → ℕ
-evennessOf f x = (highestOf f x + unitOf f) % 2
+unfoldable pub exponentParity : Format → ℕ → ℕ
+exponentParity f x = (highestOf f x + unitOf f) % 2

@@ -12,7 +12,7 @@ use Rattle.kinds.specs.Operation.{isOperation, opOf, isReciprocal}
 use Rattle.kinds.specs.Question.{ask}
 use Rattle.significand.specs.Width.{k64, t64, Significand, Operand}
 use Rattle.significand.specs.Steps.{indexOf, factorOf, signOf, reducedOf, seriesOf, multiplierOf, rawOf}
-use Rattle.significand.specs.Tables.{tablesBefore, tablesLength, placeOf}
+use Rattle.significand.specs.Tables.{tablesBefore, tablesLength, entryPlace}
 use Rattle.significand.specs.Call.{isLent, isEntry, raw64Door}
 use Rattle.significand.proofs.Reduction.{index-least, index-below}
 use Rattle.significand.proofs.Sizes.{multiplier64-most}
@@ -57,7 +57,7 @@ module _ (y : ℕ) (Y : Significand k64 t64 y) where
     pub place-small : (before + p) * 32768 + (y / 2 ^ 37 - 32768) < tablesLength k64
     place-small = omega (arith, index-upto)
 
-    pub place-is : before ≡ tablesBefore op → (before + p) * 32768 + (y / 2 ^ 37 - 32768) ≡ placeOf k64 op p (y / 2 ^ 37)
+    pub place-is : before ≡ tablesBefore op → (before + p) * 32768 + (y / 2 ^ 37 - 32768) ≡ entryPlace k64 op p (y / 2 ^ 37)
     place-is e = rw e
 
 pub entry-at : (table : List ℕ) (n m : ℕ) → n ≡ m → getD table n 0 ≡ getD table m 0
@@ -78,7 +78,7 @@ unfolding multiplierOf
 reciprocal-is y r b g d er h eb eg = raw-is Reciprocal y 0 r (r * 17592186044416) b g d er h eb refl eg
 
 -- by the entry: M, and then the raw answer; or not, and then 0
-module _ (op : Op) (y p r m : ℕ) (table : List ℕ) (er : r ≡ factorOf k64 (y / 2 ^ 37)) (em : m ≡ getD table (placeOf k64 op p (y / 2 ^ 37)) 0)
+module _ (op : Op) (y p r m : ℕ) (table : List ℕ) (er : r ≡ factorOf k64 (y / 2 ^ 37)) (em : m ≡ getD table (entryPlace k64 op p (y / 2 ^ 37)) 0)
     (root : isReciprocal op ≡ false) (holds : Bool) (eh : holds ≡ eqb m (multiplierOf k64 op r p)) where
   entry-is : isEntry k64 t64 op y p table ≡ holds
   unfolding isEntry indexOf

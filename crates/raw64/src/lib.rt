@@ -9,7 +9,7 @@ ghost use Rattle.kinds.specs.declared.Op.the-variants.{Reciprocal};
 ghost use Rattle.kinds.specs.Operation.{isReciprocal};
 ghost use Rattle.significand.specs.Width.{k64, t64, Significand, Operand};
 ghost use Rattle.significand.specs.Steps.{seriesOf, rawOf};
-ghost use Rattle.significand.specs.Tables.{tablesLength, tablesBefore, placeOf};
+ghost use Rattle.significand.specs.Tables.{tablesLength, tablesBefore, entryPlace};
 ghost use Rattle.significand.specs.Call.{isLent, raw64Door};
 ghost use Rattle.raw64.specs.Tried.{triedOf};
 use entries::holds;
@@ -108,7 +108,7 @@ pub fn rooted(op: Op, y: u64, p: u64, table: &[u64]) -> Tried
 // The entry that an operand uses.
 fn entry(op: Op, y: u64, p: u64, table: &[u64]) -> u64
     requires { ⌜ Significand k64 t64 y × (p ≤ 1) × (length (now table) ≡ tablesLength k64) ⌝ }
-    ensures { λ r. ⌜ r ≡ getD (now (table .entry)) (placeOf k64 op p (y / 2 ^ 37)) 0 ⌝ }
+    ensures { λ r. ⌜ r ≡ getD (now (table .entry)) (entryPlace k64 op p (y / 2 ^ 37)) 0 ⌝ }
 {
     table[place_of(op, y, p)]
 }
@@ -116,7 +116,7 @@ fn entry(op: Op, y: u64, p: u64, table: &[u64]) -> u64
 // Where it stands: root p 0, root p 1, inverse root p 0, inverse root p 1, in each i from 32,768 up.
 fn place_of(op: Op, y: u64, p: u64) -> usize
     requires { ⌜ Significand k64 t64 y × (p ≤ 1) ⌝ }
-    ensures { λ r. ⌜ (r ≡ placeOf k64 op p (y / 2 ^ 37)) × (r < tablesLength k64) ⌝ }
+    ensures { λ r. ⌜ (r ≡ entryPlace k64 op p (y / 2 ^ 37)) × (r < tablesLength k64) ⌝ }
 {
     (tables_before(op) + p as usize) * ENTRIES + ((y >> 37) as usize - ENTRIES)
 }

@@ -17,7 +17,7 @@ use Rattle.kinds.specs.Question.{ask, thenAsk}
 use Rattle.kinds.proofs.Questions.{yes, asked, then-none}
 use Rattle.significand.specs.Width.{k32, t32, k64, t64, Significand, Operand}
 use Rattle.significand.specs.Steps.{indexOf, factorOf, multiplierOf, rawOf}
-use Rattle.significand.specs.Tables.{tables, placeOf}
+use Rattle.significand.specs.Tables.{tables, entryPlace}
 use Rattle.significand.specs.Call.{isSignificand, isParity, rawRefusal, rawAnswer, isLent, isEntry, raw64Door, raw64Refusal, raw64Answer}
 use Rattle.significand.specs.Distance.{Near, boundOf}
 use Rattle.significand.proofs.Reduction.{index-least, index-below}
@@ -152,7 +152,7 @@ module _ (operation y p : ℕ) (table : List ℕ) where
 
 module _ (k t : ℕ) (h : 7 ≤ k) (y p : ℕ) where
   root-entry : (op : Op) → isReciprocal op ≡ false → Operand k t op y p
-      → eqb (getD (tables k) (placeOf k op p (indexOf k t y)) 0) (multiplierOf k op (factorOf k (indexOf k t y)) p) ≡ true
+      → eqb (getD (tables k) (entryPlace k op p (indexOf k t y)) 0) (multiplierOf k op (factorOf k (indexOf k t y)) p) ≡ true
   root-entry op root o =
       eq-eqb _ _
       (entry-placed k op p (indexOf k t y) root (o .parity) (index-least k t y h (o .significand)) (index-below k t y h (o .significand)))

@@ -13,7 +13,7 @@ use Rattle.kinds.specs.declared.Op.{Op}
 use Rattle.kinds.specs.declared.Op.the-variants.{Reciprocal, Root, InverseRoot}
 use Rattle.numbers.proofs.Exponents.{power-of}
 use Rattle.significand.specs.Steps.{factorOf, multiplierOf}
-use Rattle.significand.specs.Tables.{entriesFrom, tableOf, tables, tablesLength, tablesBefore, placeOf}
+use Rattle.significand.specs.Tables.{entriesFrom, tableOf, tables, tablesLength, tablesBefore, entryPlace}
 
 -- n indices from i up have n entries, and at j stands the entry of i + j
 entries-length : (k : ℕ) (op : Op) (p i n : ℕ) → length (entriesFrom k op p i n) ≡ n
@@ -72,9 +72,9 @@ module _ (k : ℕ) where
   entry-at Root (suc (suc p)) j root e h = absurd (omega arith)
   entry-at InverseRoot (suc (suc p)) j root e h = absurd (omega arith)
 
-  -- BY PLACE: where `placeOf` says stands M
+  -- BY PLACE: where `entryPlace` says stands M
   pub entry-placed : (op : Op) (p i : ℕ) → isReciprocal op ≡ false → p ≤ 1 → 2 ^ k ≤ i → i < 2 ^ (k + 1)
-      → getD (tables k) (placeOf k op p i) 0 ≡ multiplierOf k op (factorOf k i) p
+      → getD (tables k) (entryPlace k op p i) 0 ≡ multiplierOf k op (factorOf k i) p
   entry-placed op p i root e least below =
       entry-at op p (i - 2 ^ k) root e (omega (arith, power-of (k + 1) (1 ∷ k ∷ []) (omega arith)))
       ∙ ap (λ (x : ℕ). multiplierOf k op (factorOf k x) p) (omega arith)

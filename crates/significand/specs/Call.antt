@@ -9,7 +9,7 @@ use Rattle.kinds.specs.Operation.{isOperation, opOf, isReciprocal}
 use Rattle.kinds.specs.Question.{ask, thenAsk}
 use Rattle.significand.specs.Width.{k32, t32, k64, t64}
 use Rattle.significand.specs.Steps.{indexOf, factorOf, multiplierOf, rawOf}
-use Rattle.significand.specs.Tables.{tables, tablesLength, placeOf}
+use Rattle.significand.specs.Tables.{tables, tablesLength, entryPlace}
 
 -- question 3: has the significand 3k + t bits? [from 8,388,608 to 16,777,215, and from 2^52 to below 2^53]
 abbrev pub isSignificand : ℕ → ℕ → ℕ → Bool
@@ -38,7 +38,7 @@ isLent k op entries = isReciprocal op || eqb entries (tablesLength k)
 -- question 16: is the entry that the operand uses M? No other entry is looked at
 unfoldable pub isEntry : ℕ → ℕ → Op → ℕ → ℕ → List ℕ → Bool
 isEntry k t op y p table =
-    isReciprocal op || eqb (getD table (placeOf k op p (indexOf k t y)) 0) (multiplierOf k op (factorOf k (indexOf k t y)) p)
+    isReciprocal op || eqb (getD table (entryPlace k op p (indexOf k t y)) 0) (multiplierOf k op (factorOf k (indexOf k t y)) p)
 
 -- the raw call for significands of 53 bits: questions 1, 3, 4 and 15, for a slice of so many entries
 unfoldable pub raw64Door : ℕ → ℕ → ℕ → ℕ → ℕ

@@ -29,5 +29,5 @@ tablesBefore Root = 0
 tablesBefore InverseRoot = 2
 
 -- where the entry of an operation, a parity and an i stands
-abbrev pub placeOf : ℕ → Op → ℕ → ℕ → ℕ
-placeOf k op p i = (tablesBefore op + p) * 2 ^ k + (i - 2 ^ k)
+abbrev pub entryPlace : ℕ → Op → ℕ → ℕ → ℕ
+entryPlace k op p i = (tablesBefore op + p) * 2 ^ k + (i - 2 ^ k)

@@ -8,11 +8,11 @@ use Rattle.kinds.specs.Operation.{isOperation, opOf}
 use Rattle.kinds.specs.Rounding.{isRounding}
 use Rattle.significand.specs.Width.{k64, t64}
 use Rattle.significand.specs.Steps.{indexOf}
-use Rattle.significand.specs.Tables.{tables, placeOf}
+use Rattle.significand.specs.Tables.{tables, entryPlace}
 use Rattle.significand.specs.Call.{isSignificand, isParity, fillRefusal, sliceAfter}
 use Rattle.significand.proofs.Accepted.{filled-accepted as raw-accepted}
 use Rattle.ieee.specs.Format.{binary64}
-use Rattle.ieee.specs.Normalized.{significandOf, evennessOf}
+use Rattle.ieee.specs.Normalized.{significandOf, exponentParity}
 use Rattle.binary64.specs.Call.{magnitude}
 use Rattle.binary64.proofs.Filled.{filled-accepted, same-refusal}
 use Rattle.plate.specs.declared.Status.{Status}
@@ -37,7 +37,7 @@ module _ (before after : List ℕ) (accepted : fillRefusal (length before) ≡ 0
 
 -- of two slices of one length that hold the same where the operand's entry stands, a binary64 call tells none from the other
 pub one-entry : (operation rounding b : ℕ) (s : Status) (m n : List ℕ) → length m ≡ length n
-    → getD m (placeOf k64 (opOf operation) (evennessOf binary64 (magnitude b)) (indexOf k64 t64 (significandOf binary64 (magnitude b)))) 0
-    ≡ getD n (placeOf k64 (opOf operation) (evennessOf binary64 (magnitude b)) (indexOf k64 t64 (significandOf binary64 (magnitude b)))) 0
+    → getD m (entryPlace k64 (opOf operation) (exponentParity binary64 (magnitude b)) (indexOf k64 t64 (significandOf binary64 (magnitude b)))) 0
+    ≡ getD n (entryPlace k64 (opOf operation) (exponentParity binary64 (magnitude b)) (indexOf k64 t64 (significandOf binary64 (magnitude b)))) 0
     → binary64Call operation rounding b s m ≡ binary64Call operation rounding b s n
 one-entry operation rounding b s m n long entry = rw (same-refusal operation rounding b m n long entry)
