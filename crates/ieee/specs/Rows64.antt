@@ -4,7 +4,7 @@ use mathlib.Core.List.{List, [], _∷_}
 use Prim.Native.Nat.{ℕ, _+_}
 use Rattle.kinds.specs.declared.Mode.the-variants.{Nearest, Up, Down, TowardZero}
 use Rattle.kinds.specs.Operation.{opOf}
-use Rattle.kinds.specs.Flag.{noFlag, overflow, underflow, inexact}
+use Rattle.kinds.specs.Flag.{noFlag, invalid, divisionByZero, overflow, underflow, inexact}
 use Rattle.ieee.specs.Format.{binary64}
 use Rattle.ieee.specs.Answer.{answer, answerOf}
 
@@ -36,6 +36,11 @@ rows64 =
     ∷ row 1 0xFFE0000000000001 0x8008000000000000 0x8007FFFFFFFFFFFF 0x8008000000000000 0x8007FFFFFFFFFFFF (underflow + inexact)
     ∷ row 2 0x0000000000000001 0x1E60000000000000 0x1E60000000000000 0x1E60000000000000 0x1E60000000000000 noFlag
     ∷ row 3 0x0000000000000001 0x6180000000000000 0x6180000000000000 0x6180000000000000 0x6180000000000000 noFlag
+    ∷ row 1 0x7FD0000000000000 0x0010000000000000 0x0010000000000000 0x0010000000000000 0x0010000000000000 noFlag
+    ∷ row 3 0x8000000000000000 0xFFF0000000000000 0xFFF0000000000000 0xFFF0000000000000 0xFFF0000000000000 divisionByZero
+    ∷ row 2 0xBFF0000000000000 0x7FF8000000000000 0x7FF8000000000000 0x7FF8000000000000 0x7FF8000000000000 invalid
+    ∷ row 1 0xFFF0000000000001 0x7FF8000000000000 0x7FF8000000000000 0x7FF8000000000000 0x7FF8000000000000 invalid
+    ∷ row 3 0xFFFFFFFFFFFFFFFF 0x7FF8000000000000 0x7FF8000000000000 0x7FF8000000000000 0x7FF8000000000000 noFlag
     ∷ []
 
 -- each row of a list has a property

@@ -114,13 +114,16 @@ pub fn raw(operation: Operation, significand: u32, parity: u8) -> RawReply
     RawReply { refusal, answer }
 }
 
+// How many numbers the tables are.
+pub const TABLES: usize = raw64::TABLES;
+
 // The filling call: the four tables of M that the roots of raw64 need, put into the lent slice. It gives the number of the one question
 // that it asks, 15, and then the slice holds what it held; or 0.
 pub fn fill_tables(tables: &mut [u64]) -> u8
     ensures { λ r. ⌜ r ≡ fillRefusal (length (now (tables .entry))) ⌝ }
     ensures { λ _. ⌜ now (tables .exit) ≡ sliceAfter (now (tables .entry)) ⌝ }
 {
-    if tables.len() != raw64::TABLES {
+    if tables.len() != TABLES {
         return 15;
     }
     filling::fill(tables);

@@ -75,7 +75,7 @@ pub fn answer(op: Op, y: u64, p: u64, table: &[u64]) -> Tried
     rooted(op, y, p, table)
 }
 
-pub fn reciprocal(y: u64) -> u64
+fn reciprocal(y: u64) -> u64
     requires { ⌜ Significand k64 t64 y ⌝ }
     ensures { λ r. ⌜ r ≡ rawOf k64 t64 Reciprocal y 0 ⌝ }
 {
@@ -86,7 +86,7 @@ pub fn reciprocal(y: u64) -> u64
 }
 
 // The root or the inverse root of Y, or of 2Y where p is 1.
-pub fn rooted(op: Op, y: u64, p: u64, table: &[u64]) -> Tried
+fn rooted(op: Op, y: u64, p: u64, table: &[u64]) -> Tried
     requires { ⌜ Significand k64 t64 y × (p ≤ 1) × (isReciprocal op ≡ false) × (length (now table) ≡ tablesLength k64) ⌝ }
     ensures { λ r. ⌜ r ≡ triedOf op y p (now (table .entry)) ⌝ }
 {
