@@ -508,6 +508,12 @@ def binary64_calls():
         yield (chance.choice((ENTRIES, chance.randrange(ENTRIES + 2))),
                chance.randrange(ENTRIES + 2), chance.randrange(2**64), chance.randrange(5),
                chance.randrange(5), chance.randrange(2**64), chance.randrange(256))
+    # Minus infinity and minus zero, with every length and a spoilt entry at each table's first place.
+    for operation, bits in itertools.product((1, 2, 3), (SIGN64 | 0x7FF0000000000000, SIGN64)):
+        for length in (0, 131071, ENTRIES, 131073):
+            yield length, ENTRIES + 1, 0, operation, chance.randrange(4), bits, status()
+        for table in range(4):
+            yield ENTRIES, table * 32768, 0, operation, chance.randrange(4), bits, status()
 
 
 BINARY64_ROOM = 1000000         # the program binary64_vectors is given fewer bytes
