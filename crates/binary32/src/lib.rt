@@ -8,10 +8,12 @@ ghost use Rattle.ieee.specs.Answer.{answerOf};
 ghost use Rattle.ieee.specs.Call.{binary32Refusal};
 ghost use Rattle.pattern.specs.Answer.{Answered};
 ghost use Rattle.binary32.specs.Answer.{roundedAnswer};
+ghost use Rattle.binary32.specs.Reply.{replyTo};
 use below::below;
 use kinds::Mode;
 use kinds::Op;
 use kinds::ask;
+use kinds::joined;
 use pattern::Width;
 use pattern::parts::fields;
 use rounding::round;
@@ -24,8 +26,36 @@ pub struct Rounded {
     pub flags: u8,
 }
 
+// What the binary32 call gives back: refusal 0 with the answer's bits and the new status; or the number of a question, with bits 0 and
+// the status as given.
+pub struct Reply {
+    pub refusal: u8,
+    pub bits: u32,
+    pub status: u8,
+}
+
+// The binary32 call: the questions first, on numbers as they come; then the work, whose flags are joined to the status.
+pub fn call(operation: u8, rounding: u8, bits: u32, status: u8) -> Reply
+    ensures { λ r. ⌜ r ≡ replyTo operation rounding bits status ⌝ }
+{
+    let refusal = refusal(operation, rounding);
+    if refusal != 0 {
+        return Reply {
+            refusal,
+            bits: 0,
+            status,
+        };
+    }
+    let rounded = answer(Op::of(operation), Mode::of(rounding), bits);
+    Reply {
+        refusal,
+        bits: rounded.bits,
+        status: joined(status, rounded.flags),
+    }
+}
+
 // The first of questions 1 and 2 that is answered "no", or 0.
-pub fn refusal(operation: u8, rounding: u8) -> u8
+fn refusal(operation: u8, rounding: u8) -> u8
     ensures { λ r. ⌜ r ≡ binary32Refusal operation rounding ⌝ }
 {
     let known = Op::is_number(operation);
@@ -34,7 +64,7 @@ pub fn refusal(operation: u8, rounding: u8) -> u8
 }
 
 // An operation on a pattern.
-pub fn answer(op: Op, mode: Mode, bits: u32) -> Rounded
+fn answer(op: Op, mode: Mode, bits: u32) -> Rounded
     ensures { λ r. ⌜ r ≡ roundedAnswer (answerOf binary32 op mode bits) ⌝ }
 {
     let r = answer_in_64_bits(op, mode, bits as u64);

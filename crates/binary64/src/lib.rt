@@ -10,10 +10,12 @@ ghost use Rattle.significand.specs.Width.{k64};
 ghost use Rattle.significand.specs.Call.{isLent};
 ghost use Rattle.binary64.specs.Call.{binary64Door};
 ghost use Rattle.binary64.specs.Tried.{triedOf};
+ghost use Rattle.binary64.specs.Reply.{replyTo};
 use below::below;
 use kinds::Mode;
 use kinds::Op;
 use kinds::ask;
+use kinds::joined;
 use pattern::Width;
 use pattern::answer::Rounded;
 use pattern::parts::fields;
@@ -28,8 +30,44 @@ pub struct Tried {
     pub flags: u8,
 }
 
+// What the binary64 call gives back: refusal 0 with the answer's bits and the new status; or the number of a question, with bits 0 and
+// the status as given.
+pub struct Reply {
+    pub refusal: u8,
+    pub bits: u64,
+    pub status: u8,
+}
+
+// The binary64 call: the questions that ask for numbers alone first; then the work, which asks the last, and whose flags are joined to the
+// status.
+pub fn call(operation: u8, rounding: u8, bits: u64, status: u8, tables: &[u64]) -> Reply
+    ensures { λ r. ⌜ r ≡ replyTo operation rounding bits status (now (tables .entry)) ⌝ }
+{
+    let refusal = door(operation, rounding, tables.len());
+    if refusal != 0 {
+        return Reply {
+            refusal,
+            bits: 0,
+            status,
+        };
+    }
+    let tried = answer(Op::of(operation), Mode::of(rounding), bits, tables);
+    if !tried.holds {
+        return Reply {
+            refusal: 16,
+            bits: 0,
+            status,
+        };
+    }
+    Reply {
+        refusal,
+        bits: tried.bits,
+        status: joined(status, tried.flags),
+    }
+}
+
 // The first of questions 1, 2 and 15 that is answered "no", or 0.
-pub fn door(operation: u8, rounding: u8, entries: usize) -> u8
+fn door(operation: u8, rounding: u8, entries: usize) -> u8
     ensures { λ r. ⌜ r ≡ binary64Door operation rounding entries ⌝ }
 {
     let known = Op::is_number(operation);
@@ -40,7 +78,7 @@ pub fn door(operation: u8, rounding: u8, entries: usize) -> u8
 }
 
 // Question 16 and the answer of an operation. A special operand needs no entry.
-pub fn answer(op: Op, mode: Mode, bits: u64, tables: &[u64]) -> Tried
+fn answer(op: Op, mode: Mode, bits: u64, tables: &[u64]) -> Tried
     requires { ⌜ T (isLent k64 op (length (now tables))) ⌝ }
     ensures { λ r. ⌜ r ≡ triedOf op mode bits (now (tables .entry)) ⌝ }
 {

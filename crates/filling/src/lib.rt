@@ -6,6 +6,7 @@ ghost use lib.ListN.{length, getD, set};
 ghost use Rattle.significand.specs.Width.{k64};
 ghost use Rattle.significand.specs.Steps.{factorOf, multiplierOf};
 ghost use Rattle.significand.specs.Tables.{tables, tablesLength};
+ghost use Rattle.significand.specs.Call.{fillRefusal, sliceAfter};
 use entries::MOST;
 use entries::at_most;
 use kinds::Op;
@@ -24,7 +25,19 @@ const FIRST: usize = 32768;
 // √2 × 2^63.
 const ROOT_OF_TWO: u64 = 0xB504_F333_F9DE_6484;
 
-pub fn fill(table: &mut [u64])
+// The filling call: the number of the one question that it asks, 15, and then the slice holds what it held; or 0.
+pub fn call(table: &mut [u64]) -> u8
+    ensures { λ r. ⌜ r ≡ fillRefusal (length (now (table .entry))) ⌝ }
+    ensures { λ _. ⌜ now (table .exit) ≡ sliceAfter (now (table .entry)) ⌝ }
+{
+    if table.len() != LENGTH {
+        return 15;
+    }
+    fill(table);
+    0
+}
+
+fn fill(table: &mut [u64])
     requires { ⌜ length (now table) ≡ tablesLength k64 ⌝ }
     ensures { λ _. ⌜ now (table .exit) ≡ tables k64 ⌝ }
 {

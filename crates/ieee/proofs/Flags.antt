@@ -2,10 +2,10 @@
 use mathlib.Core.Path.{_≡_}
 use mathlib.Core.Bool.{Bool, true, false, cond, not, _&&_}
 use Prim.Native.Nat.{ℕ, _-_, _%_, _^_, _≤_, _<_, max}
-use native.Mathlib.Nat.{mod-lt}
+use native.Mathlib.Nat.{mod-lt, mod-eq-of-lt}
 use native.Mathlib.Omega.{arith}
 use lib.Dec.{lit<, ltb, eqb}
-use lib.Bits.{or-lt}
+use lib.Bits.{bitOr, or-lt}
 use Rattle.kinds.specs.declared.Op.{Op}
 use Rattle.kinds.specs.declared.Op.the-variants.{Reciprocal, Root, InverseRoot}
 use Rattle.kinds.specs.Operation.{isReciprocal}
@@ -83,3 +83,8 @@ module _ (f : Format) (n : ℕ) (op : Op) (mode : Mode) (b status : ℕ) (accept
   -- so that no flag that stood is lost
   pub status-keeps : (k : ℕ) → bit k (status % 32) ≤ bit k (statusOf f n op mode b status)
   status-keeps k = rw (accepted-status f n op mode b accepted status) (or-keeps k (status % 32) _)
+
+-- the answer's flags are known ones, so that joining them leaves none out
+pub status-joined : (f : Format) (n : ℕ) (op : Op) (mode : Mode) (b status flags : ℕ) → n ≡ 0 → flags ≡ answerOf f op mode b .flags
+    → bitOr (status % 32) (flags % 32) ≡ statusOf f n op mode b status
+status-joined f n op mode b status flags z e = rw (e, accepted-status f n op mode b z status, mod-eq-of-lt (flags-small f op mode b))

@@ -1,4 +1,6 @@
 // The operations, the roundings and the rules for centres by their cases, the flags by their bits, questions, and the choice between two neighbours.
+ghost use lib.Bits.{bitOr};
+ghost use Prim.Native.Nat.{_%_};
 ghost use mathlib.Core.Path.{_≡_};
 ghost use Rattle.kinds.specs.Operation.{isOperation, opOf, isReciprocal};
 ghost use Rattle.kinds.specs.Rounding.{isRounding, modeOf, numberOf, away};
@@ -104,6 +106,13 @@ impl Flags {
 }
 
 // One question: what the later ones give where the answer is yes, and its number where it is no.
+// Flags joined to a status; bits that are no flag's are left out of both.
+pub fn joined(status: u8, flags: u8) -> u8
+    ensures { λ r. ⌜ r ≡ bitOr (status % 32) (flags % 32) ⌝ }
+{
+    (status % 32) | (flags % 32)
+}
+
 pub fn ask(yes: bool, number: u8, rest: u8) -> u8
     ensures { λ r. ⌜ r ≡ Question·ask yes number rest ⌝ }
 {

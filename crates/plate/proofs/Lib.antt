@@ -1,6 +1,2 @@
-pub mod Replies
-pub mod Tried
-pub mod Filled
-pub mod Rounded
 pub mod Listed
 pub mod Records

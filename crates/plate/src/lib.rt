@@ -106,12 +106,11 @@ pub struct RawReply {
 pub fn raw(operation: Operation, significand: u32, parity: u8) -> RawReply
     ensures { λ r. ⌜ r ≡ rawCall (operation .0) significand parity ⌝ }
 {
-    let refusal = raw::refusal(operation.0, significand, parity);
-    if refusal != 0 {
-        return RawReply { refusal, answer: 0 };
+    let r = raw::call(operation.0, significand, parity);
+    RawReply {
+        refusal: r.refusal,
+        answer: r.answer,
     }
-    let answer = raw::answer(Op::of(operation.0), significand, parity);
-    RawReply { refusal, answer }
 }
 
 // How many numbers the tables are.
@@ -123,11 +122,7 @@ pub fn fill_tables(tables: &mut [u64]) -> u8
     ensures { λ r. ⌜ r ≡ fillRefusal (length (now (tables .entry))) ⌝ }
     ensures { λ _. ⌜ now (tables .exit) ≡ sliceAfter (now (tables .entry)) ⌝ }
 {
-    if tables.len() != TABLES {
-        return 15;
-    }
-    filling::fill(tables);
-    0
+    filling::call(tables)
 }
 
 // What the raw call for significands of 53 bits gives back: refusal 0 with the answer g, which stands for g / 2^60; or the number of a
@@ -143,20 +138,10 @@ pub struct Raw64Reply {
 pub fn raw64(operation: Operation, significand: u64, parity: u8, tables: &[u64]) -> Raw64Reply
     ensures { λ r. ⌜ r ≡ raw64Call (operation .0) significand parity (now (tables .entry)) ⌝ }
 {
-    let refusal = raw64::door(operation.0, significand, parity, tables.len());
-    if refusal != 0 {
-        return Raw64Reply { refusal, answer: 0 };
-    }
-    let tried = raw64::answer(Op::of(operation.0), significand, parity as u64, tables);
-    if !tried.holds {
-        return Raw64Reply {
-            refusal: 16,
-            answer: 0,
-        };
-    }
+    let r = raw64::call(operation.0, significand, parity, tables);
     Raw64Reply {
-        refusal,
-        answer: tried.answer,
+        refusal: r.refusal,
+        answer: r.answer,
     }
 }
 
@@ -177,19 +162,11 @@ pub fn binary32(
 ) -> Binary32Reply
     ensures { λ r. ⌜ r ≡ binary32Call (operation .0) (rounding .0) bits status ⌝ }
 {
-    let refusal = binary32::refusal(operation.0, rounding.0);
-    if refusal != 0 {
-        return Binary32Reply {
-            refusal,
-            bits: 0,
-            status,
-        };
-    }
-    let rounded = binary32::answer(Op::of(operation.0), Mode::of(rounding.0), bits);
+    let r = binary32::call(operation.0, rounding.0, bits, status.flags);
     Binary32Reply {
-        refusal,
-        bits: rounded.bits,
-        status: status.raise(Flag(rounded.flags)),
+        refusal: r.refusal,
+        bits: r.bits,
+        status: Status { flags: r.status },
     }
 }
 
@@ -210,26 +187,11 @@ pub fn binary64(
 ) -> Binary64Reply
     ensures { λ r. ⌜ r ≡ binary64Call (operation .0) (rounding .0) bits status (now (tables .entry)) ⌝ }
 {
-    let refusal = binary64::door(operation.0, rounding.0, tables.len());
-    if refusal != 0 {
-        return Binary64Reply {
-            refusal,
-            bits: 0,
-            status,
-        };
-    }
-    let answer = binary64::answer(Op::of(operation.0), Mode::of(rounding.0), bits, tables);
-    if !answer.holds {
-        return Binary64Reply {
-            refusal: 16,
-            bits: 0,
-            status,
-        };
-    }
+    let r = binary64::call(operation.0, rounding.0, bits, status.flags, tables);
     Binary64Reply {
-        refusal,
-        bits: answer.bits,
-        status: status.raise(Flag(answer.flags)),
+        refusal: r.refusal,
+        bits: r.bits,
+        status: Status { flags: r.status },
     }
 }
 

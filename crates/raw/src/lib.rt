@@ -6,6 +6,7 @@ ghost use Rattle.kinds.specs.declared.Op.the-variants.{Reciprocal, Root, Invers
 ghost use Rattle.significand.specs.Width.{k32, t32, Significand, Operand};
 ghost use Rattle.significand.specs.Steps.{rawOf};
 ghost use Rattle.significand.specs.Call.{rawRefusal};
+ghost use Rattle.raw.specs.Reply.{replyTo};
 use kinds::Op;
 use kinds::ask;
 use series::inverse_root_series;
@@ -17,6 +18,24 @@ use series::root_series;
 const LEAST_SIGNIFICAND: u32 = 8388608;
 
 const SIGNIFICAND_LIMIT: u32 = 16777216;
+
+// What the raw call gives back: refusal 0 with the answer; or the number of a question, with answer 0.
+pub struct Reply {
+    pub refusal: u8,
+    pub answer: u32,
+}
+
+// The raw call: the questions first, on numbers as they come; then the work.
+pub fn call(operation: u8, significand: u32, parity: u8) -> Reply
+    ensures { λ r. ⌜ r ≡ replyTo operation significand parity ⌝ }
+{
+    let refusal = refusal(operation, significand, parity);
+    if refusal != 0 {
+        return Reply { refusal, answer: 0 };
+    }
+    let answer = answer(Op::of(operation), significand, parity);
+    Reply { refusal, answer }
+}
 
 // The first of questions 1, 3 and 4 that is answered "no", or 0. Each is worked out whether or not an earlier one is answered "no".
 pub fn refusal(operation: u8, significand: u32, parity: u8) -> u8

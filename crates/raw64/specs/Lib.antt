@@ -1,1 +1,2 @@
 pub mod Tried
+pub mod Reply

@@ -12,6 +12,7 @@ ghost use Rattle.significand.specs.Steps.{seriesOf, rawOf};
 ghost use Rattle.significand.specs.Tables.{tablesLength, tablesBefore, entryPlace};
 ghost use Rattle.significand.specs.Call.{isLent, raw64Door};
 ghost use Rattle.raw64.specs.Tried.{triedOf};
+ghost use Rattle.raw64.specs.Reply.{replyTo};
 use entries::holds;
 use kinds::Op;
 use kinds::ask;
@@ -39,8 +40,35 @@ pub struct Tried {
     pub answer: u64,
 }
 
+// What the raw call gives back: refusal 0 with the answer; or the number of a question, with answer 0.
+pub struct Reply {
+    pub refusal: u8,
+    pub answer: u64,
+}
+
+// The raw call: the questions that ask for numbers alone first; then the work, which asks the last.
+pub fn call(operation: u8, significand: u64, parity: u8, table: &[u64]) -> Reply
+    ensures { λ r. ⌜ r ≡ replyTo operation significand parity (now (table .entry)) ⌝ }
+{
+    let refusal = door(operation, significand, parity, table.len());
+    if refusal != 0 {
+        return Reply { refusal, answer: 0 };
+    }
+    let tried = answer(Op::of(operation), significand, parity as u64, table);
+    if !tried.holds {
+        return Reply {
+            refusal: 16,
+            answer: 0,
+        };
+    }
+    Reply {
+        refusal,
+        answer: tried.answer,
+    }
+}
+
 // The first of questions 1, 3, 4 and 15 that is answered "no", or 0.
-pub fn door(operation: u8, significand: u64, parity: u8, entries: usize) -> u8
+fn door(operation: u8, significand: u64, parity: u8, entries: usize) -> u8
     ensures { λ r. ⌜ r ≡ raw64Door operation significand parity entries ⌝ }
 {
     let known = Op::is_number(operation);

@@ -1,23 +1,13 @@
--- `plate::raw` meets its contract: the first "no", or the answer. Assumes nothing.
-use Rattle.plate.proofs.Replies.{refused, operand-of, answered}
+-- `plate::raw` meets its contract: what the layer below gives back. Assumes nothing.
 use borrow.Author.Needs.{needs}
 use Rattle.plate.proofs.raw.Statement.{statement}
 use Rattle.plate.proofs.raw.Tie as tie
 
-refusal-requires : tie.Need-refusal-requires
-refusal-requires c κs = search needs
+call-requires : tie.Need-call-requires
+call-requires c κs = search needs
 
 returns : tie.Need-returns
-returns c = search refused
-
-of-requires : tie.Need-of-requires
-of-requires c κs = search needs
-
-answer-requires : tie.Need-answer-requires
-answer-requires c κs = search operand-of
-
-returns-2 : tie.Need-returns-2
-returns-2 c = search answered
+returns c = simp (c .call .ensures)
 
 pub raw-spec : {M : Type 1} → statement M
-raw-spec = tie.close (tie.spec refusal-requires returns of-requires answer-requires returns-2)
+raw-spec = tie.close (tie.spec call-requires returns)

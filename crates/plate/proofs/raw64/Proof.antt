@@ -1,28 +1,13 @@
--- `plate::raw64` meets its contract: the first "no", the last one too, or the answer. Assumes nothing.
-use Rattle.plate.proofs.Tried.{refused, operand-of, lent-of, broken, answered}
+-- `plate::raw64` meets its contract: what the layer below gives back. Assumes nothing.
 use borrow.Author.Needs.{needs}
-use borrow.Author.Tests.{not-true, not-false}
 use Rattle.plate.proofs.raw64.Statement.{statement}
 use Rattle.plate.proofs.raw64.Tie as tie
 
-door-requires : tie.Need-door-requires
-door-requires c κs = search needs
+call-requires : tie.Need-call-requires
+call-requires c κs = search needs
 
 returns : tie.Need-returns
-returns c = search refused
-
-of-requires : tie.Need-of-requires
-of-requires c κs = search needs
-
-answer-requires : tie.Need-answer-requires
-answer-requires c κs = (search operand-of, search lent-of)
-
-returns-2 : tie.Need-returns-2
-returns-2 c = search (broken, not-true)
-
-returns-3 : tie.Need-returns-3
-returns-3 c = search (answered, not-false)
+returns c = simp (c .call .ensures)
 
 pub raw64-spec : {M : Type 1} → statement M
-raw64-spec =
-    tie.close (tie.spec door-requires returns of-requires answer-requires returns-2 returns-3)
+raw64-spec = tie.close (tie.spec call-requires returns)

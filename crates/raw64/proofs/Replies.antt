@@ -12,17 +12,17 @@ use Rattle.kinds.proofs.Questions.{ask-yes, ask-no, then-first, then-next}
 use Rattle.significand.specs.Width.{k64, t64, Operand}
 use Rattle.significand.specs.Call.{isLent, isEntry, raw64Door, raw64Refusal}
 use Rattle.significand.proofs.Accepted.{door-operand, door-lent, refused64-answer, accepted64-answer}
 use Rattle.raw64.specs.declared.Tried.{Tried}
 use Rattle.raw64.specs.Tried.{triedOf}
-use Rattle.plate.specs.Raw64.{raw64Call}
+use Rattle.raw64.specs.Reply.{replyTo}
 
 module _ (operation y p : ℕ) (table : List ℕ) where
   -- a number other than 0, with answer 0
-  refused-with : (n : ℕ) → n ≡ raw64Refusal operation y p table → (n ≡ 0 → ⊥) → record { refusal = n; answer = 0 } ≡ raw64Call operation y p table
+  refused-with : (n : ℕ) → n ≡ raw64Refusal operation y p table → (n ≡ 0 → ⊥) → record { refusal = n; answer = 0 } ≡ replyTo operation y p table
   refused-with n e h = cc (refused64-answer operation y p table (λ z. h (e ∙ z)))
 
   module _ (n : ℕ) (e : n ≡ raw64Door operation y p (length table)) where
-    pub refused : (n ≡ 0 → ⊥) → record { refusal = n; answer = 0 } ≡ raw64Call operation y p table
+    pub refused : (n ≡ 0 → ⊥) → record { refusal = n; answer = 0 } ≡ replyTo operation y p table
     unfolding raw64Refusal
     refused h = refused-with n (then-first _ _ n e h) h
 
@@ -40,14 +40,14 @@ module _ (operation y p : ℕ) (table : List ℕ) where
         unfolding triedOf
         entry-told = cc
 
-        pub broken : r .holds ≡ false → record { refusal = 16; answer = 0 } ≡ raw64Call operation y p table
+        pub broken : r .holds ≡ false → record { refusal = 16; answer = 0 } ≡ replyTo operation y p table
         unfolding raw64Refusal
         broken b =
             refused-with 16
             (then-next _ _ 16 (sym e ∙ z) (ask-no (isEntry k64 t64 (opOf operation) y p table) 16 0 (entry-told ∙ b)))
             (λ q. omega arith)
 
-        pub answered : r .holds ≡ true → record { refusal = n; answer = r .answer } ≡ raw64Call operation y p table
+        pub answered : r .holds ≡ true → record { refusal = n; answer = r .answer } ≡ replyTo operation y p table
         unfolding raw64Refusal triedOf
         answered b =
             let yes : isEntry k64 t64 (opOf operation) y p table ≡ true = entry-told ∙ b in
