@@ -1,6 +1,7 @@
 // The plate unit. Every call that is open to users stands in this file and, for callers from C, in c.rt, and nowhere else. None asks
 // anything of its caller: an operand that a call cannot take gets the number of the first question that it fails. The calls have one
-// shape: the questions first, on numbers as they come; then the work, an operation and a rounding being cases by then.
+// shape: the questions first, on numbers as they come; then the work, an operation and a rounding being cases by then. Those on numbers
+// have it in their layers, and here hand the reply on.
 mod c;
 
 ghost use mathlib.Core.Path.{_≡_};
