@@ -18,8 +18,8 @@ pub record Row : Type 0 where
   pub flags : ℕ
 
 abbrev pub row : ℕ → ℕ → ℕ → ℕ → ℕ → ℕ → ℕ → Row
-row operation operand nearest up down zero flags =
-    record { operation = operation; operand = operand; nearest = nearest; up = up; down = down; zero = zero; flags = flags }
+row operation operand nearest up down toward flags =
+    record { operation = operation; operand = operand; nearest = nearest; up = up; down = down; zero = toward; flags = flags }
 
 abbrev pub rows64 : List Row
 rows64 =

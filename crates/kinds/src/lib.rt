@@ -105,7 +105,6 @@ impl Flags {
     pub const INEXACT: u8 = 16;
 }
 
-// One question: what the later ones give where the answer is yes, and its number where it is no.
 // Flags joined to a status; bits that are no flag's are left out of both.
 pub fn joined(status: u8, flags: u8) -> u8
     ensures { λ r. ⌜ r ≡ bitOr (status % 32) (flags % 32) ⌝ }
@@ -113,6 +112,7 @@ pub fn joined(status: u8, flags: u8) -> u8
     (status % 32) | (flags % 32)
 }
 
+// One question: what the later ones give where the answer is yes, and its number where it is no.
 pub fn ask(yes: bool, number: u8, rest: u8) -> u8
     ensures { λ r. ⌜ r ≡ Question·ask yes number rest ⌝ }
 {

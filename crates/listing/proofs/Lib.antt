@@ -1,3 +1,4 @@
 pub mod RowRecords
 pub mod LiftedRows
 pub mod Whole
+pub mod Replies

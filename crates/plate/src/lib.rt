@@ -1,32 +1,23 @@
 // The plate unit. Every call that is open to users stands in this file and, for callers from C, in c.rt, and nowhere else. None asks
 // anything of its caller: an operand that a call cannot take gets the number of the first question that it fails. The calls have one
-// shape: the questions first, on numbers as they come; then the work, an operation and a rounding being cases by then. Those on numbers
-// have it in their layers, and here hand the reply on.
+// shape: the questions first, on numbers as they come; then the work, an operation and a rounding being cases by then. They have it in
+// their layers, and here hand the reply on in the types that users name.
 mod c;
 
 ghost use mathlib.Core.Path.{_≡_};
-ghost use Prim.Native.Nat.{_≤_};
 ghost use lib.ListN.{length};
 ghost use Rattle.kinds.specs.declared.Rule.the-variants.{Touching, Lifted};
 ghost use Rattle.significand.specs.Call.{fillRefusal, sliceAfter};
-ghost use Rattle.trailer.specs.Kinds.{isRounded};
-ghost use Rattle.reader.specs.Reader.{recordRefusal};
 ghost use Rattle.plate.specs.Status.{raised, cleared};
 ghost use Rattle.plate.specs.Raw.{rawCall};
 ghost use Rattle.plate.specs.Raw64.{raw64Call};
 ghost use Rattle.plate.specs.Binary32.{binary32Call};
 ghost use Rattle.plate.specs.Binary64.{binary64Call};
 ghost use Rattle.plate.specs.List.{ListCall};
-ghost use Rattle.plate.specs.Record.{listRounding, refusedRecord, recordRead, recordCall};
+ghost use Rattle.plate.specs.Record.{listRounding, recordCall};
 use kinds::Flags;
-use kinds::Mode;
-use kinds::Op;
 use kinds::Rule;
-use reader::entry;
-use trailer::Kind;
-use trailer::layout_of;
-use trailer::list_kind;
-use trailer::read_last;
+use kinds::joined;
 
 // An operation by its number.
 pub struct Operation(pub u8);
@@ -85,7 +76,7 @@ impl Status {
         ensures { λ r. ⌜ r ≡ raised self (flag .0) ⌝ }
     {
         Status {
-            flags: (self.flags % 32) | (flag.0 % 32),
+            flags: joined(self.flags, flag.0),
         }
     }
 
@@ -207,25 +198,22 @@ pub struct ListReply {
 pub fn list(rounding: Rounding, map: &[u8], buffer: &mut [u8]) -> ListReply
     ensures { λ r. ⌜ ListCall Touching (rounding .0) (now (map .entry)) (now (buffer .entry)) r (now (buffer .exit)) ⌝ }
 {
-    list_by(Rule::Touching, rounding, map, buffer)
+    let r = listing::call(Rule::Touching, rounding.0, map, buffer);
+    ListReply {
+        refusal: r.refusal,
+        length: r.length,
+    }
 }
 
 // The same with each centre lifted until the ball keeps off the nine heights round its point.
 pub fn lifted_list(rounding: Rounding, map: &[u8], buffer: &mut [u8]) -> ListReply
     ensures { λ r. ⌜ ListCall Lifted (rounding .0) (now (map .entry)) (now (buffer .entry)) r (now (buffer .exit)) ⌝ }
 {
-    list_by(Rule::Lifted, rounding, map, buffer)
-}
-
-fn list_by(rule: Rule, rounding: Rounding, map: &[u8], buffer: &mut [u8]) -> ListReply
-    ensures { λ r. ⌜ ListCall rule (rounding .0) (now (map .entry)) (now (buffer .entry)) r (now (buffer .exit)) ⌝ }
-{
-    let refusal = listing::refusal(rounding.0, map, buffer.len());
-    if refusal != 0 {
-        return ListReply { refusal, length: 0 };
+    let r = listing::call(Rule::Lifted, rounding.0, map, buffer);
+    ListReply {
+        refusal: r.refusal,
+        length: r.length,
     }
-    let length = listing::put_list(rule, Mode::of(rounding.0), map, buffer);
-    ListReply { refusal, length }
 }
 
 // Which rounding made a list, as its trailer states it: unknown where that has none, as in lists of document 01.
@@ -254,56 +242,27 @@ pub struct RecordReply {
 pub fn record(list: &[u8], index: usize) -> RecordReply
     ensures { λ r. ⌜ r ≡ recordCall (now (list .entry)) index ⌝ }
 {
-    let refusal = reader::record_refusal(list, index);
-    if refusal != 0 {
-        return refused_record(refusal);
-    }
-    read_record(list, index)
-}
-
-fn read_record(list: &[u8], index: usize) -> RecordReply
-    requires { ⌜ recordRefusal (now list) index ≡ 0 ⌝ }
-    ensures { λ r. ⌜ r ≡ recordRead (now (list .entry)) index ⌝ }
-{
-    let kind = list_kind(list);
-    let trailer = read_last(list, kind);
+    let r = reader::call(list, index);
     RecordReply {
-        refusal: 0,
-        rounding: list_rounding(kind, trailer.rounding),
-        width: trailer.width as u32,
-        depth: trailer.depth as u32,
-        step: trailer.step as u32,
-        radius: trailer.radius as u32,
-        x: entry(list, index, 0),
-        y: entry(list, index, 1),
-        z: entry(list, index, 2),
+        refusal: r.refusal,
+        rounding: list_rounding(r.stated, r.rounding),
+        width: r.width,
+        depth: r.depth,
+        step: r.step,
+        radius: r.radius,
+        x: r.x,
+        y: r.y,
+        z: r.z,
     }
 }
 
-fn refused_record(refusal: u8) -> RecordReply
-    ensures { λ r. ⌜ r ≡ refusedRecord refusal ⌝ }
+// The rounding of a list whose trailer states one, or none.
+fn list_rounding(stated: bool, number: u8) -> ListRounding
+    ensures { λ r. ⌜ r ≡ listRounding stated number ⌝ }
 {
-    RecordReply {
-        refusal,
-        rounding: ListRounding::Unknown,
-        width: 0,
-        depth: 0,
-        step: 0,
-        radius: 0,
-        x: 0,
-        y: 0,
-        z: 0,
+    if stated {
+        ListRounding::Known(Rounding(number))
+    } else {
+        ListRounding::Unknown
     }
-}
-
-// The rounding that a trailer of a kind states.
-fn list_rounding(kind: Kind, number: u64) -> ListRounding
-    requires { ⌜ number ≤ 3 ⌝ }
-    ensures { λ r. ⌜ r ≡ listRounding (isRounded kind) number ⌝ }
-{
-    let layout = layout_of(kind);
-    if !layout.rounded {
-        return ListRounding::Unknown;
-    }
-    ListRounding::Known(Rounding(number as u8))
 }

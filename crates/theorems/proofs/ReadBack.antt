@@ -23,12 +23,13 @@ use Rattle.cutter.proofs.Accepted.{accepted-of, map-asked, rounding-asked}
 use Rattle.cutter.proofs.Lengths.{list-parts}
 use Rattle.cutter.proofs.Entries.{list-held}
 use Rattle.reader.specs.Reader.{recordRefusal}
+use Rattle.reader.specs.Reply.{refusedReply, replyTo}
 use Rattle.reader.proofs.Written.{written-trailer, written-below, written-beyond, written-entry}
 use Rattle.plate.specs.declared.ListReply.{ListReply}
 use Rattle.plate.specs.declared.ListRounding.{ListRounding}
 use Rattle.plate.specs.declared.ListRounding.the-variants.{Unknown, Known}
 use Rattle.plate.specs.List.{ListCall}
-use Rattle.plate.specs.Record.{listRounding, refusedRecord, recordCall}
+use Rattle.plate.specs.Record.{listRounding, recordOf, recordCall}
 use Rattle.theorems.specs.ReadBack.{centreRead, ReadBack}
 
 -- ---- a list with a trailer of a kind that is found
@@ -42,7 +43,7 @@ module _ (k : Kind) (rule : Rule) (rounding : ℕ) (m : List ℕ) (found : listK
   list = listOf k rule (modeOf rounding) m
 
   read-each : (n : ℕ) → n < countOf (widthOf m) (depthOf m) → recordCall list n ≡ centreRead rule told rounding m n
-  unfolding recordCall
+  unfolding replyTo
   read-each n h =
       let mode = modeOf rounding in
       rw (
@@ -54,8 +55,8 @@ module _ (k : Kind) (rule : Rule) (rounding : ℕ) (m : List ℕ) (found : listK
         written-entry k rule mode m found a n 2 h (omega arith),
       ) refl
 
-  read-beyond : (n : ℕ) → countOf (widthOf m) (depthOf m) ≤ n → recordCall list n ≡ refusedRecord 14
-  unfolding recordCall
+  read-beyond : (n : ℕ) → countOf (widthOf m) (depthOf m) ≤ n → recordCall list n ≡ recordOf (refusedReply 14)
+  unfolding replyTo
   read-beyond n h = rw (written-beyond k rule (modeOf rounding) m found a n h) refl
 
   read-all : ReadBack rule told rounding m list
@@ -109,5 +110,5 @@ pub cut1-read : (b : List ℕ) (index : ℕ) → endsIn Cut1 b ≡ true → reco
       y = entryAt b index 1;
       z = entryAt b index 2;
     }
-unfolding recordCall
+unfolding replyTo
 cut1-read b index e z = rw (z, sym (kind-first b true (sym e) refl)) refl

@@ -1,20 +1,14 @@
--- `plate::list_rounding` meets its contract: unknown, or the number stated, by the kind. Assumes nothing.
-use Rattle.plate.proofs.Records.{unknown, known}
+-- `plate::list_rounding` meets its contract: the number stated, or unknown. Assumes nothing.
+use Rattle.plate.proofs.Records.{known}
 use borrow.Author.Needs.{needs}
 use Rattle.plate.proofs.list_rounding.Statement.{statement}
 use Rattle.plate.proofs.list_rounding.Tie as tie
 
-layout-of-requires : tie.Need-layout-of-requires
-layout-of-requires c κs = search needs
-
 returns : tie.Need-returns
-returns c = search unknown
-
-cast-t5 : tie.Need-cast-t5
-cast-t5 c = search needs
+returns c = search known
 
 returns-2 : tie.Need-returns-2
-returns-2 c = search known
+returns-2 c = search needs
 
 pub list-rounding-spec : {M : Type 1} → statement M
-list-rounding-spec = tie.close (tie.spec layout-of-requires returns cast-t5 returns-2)
+list-rounding-spec = tie.close (tie.spec returns returns-2)

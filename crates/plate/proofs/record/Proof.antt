@@ -1,30 +1,17 @@
--- `plate::record` meets its contract: the first "no", or what is read. Assumes nothing.
-use Rattle.plate.proofs.Records.{refused, accepted}
-use borrow.Author.Needs.{needs}
+-- `plate::record` meets its contract: what the layer below gives back. Assumes nothing.
+use Rattle.plate.proofs.Records.{in-types}
+use borrow.Author.Needs.{needs, sfits-of}
 use Rattle.plate.proofs.record.Statement.{statement}
 use Rattle.plate.proofs.record.Tie as tie
 
-record-refusal-requires : tie.Need-record-refusal-requires
-record-refusal-requires c κs = search needs
+call-requires : tie.Need-call-requires
+call-requires c κs = search needs
 
-refused-record-requires : tie.Need-refused-record-requires
-refused-record-requires c κs = search needs
+list-rounding-requires : tie.Need-list-rounding-requires
+list-rounding-requires c κs = search needs
 
 returns : tie.Need-returns
-returns c = search refused
-
-read-record-requires : tie.Need-read-record-requires
-read-record-requires c κs = search needs
-
-returns-2 : tie.Need-returns-2
-returns-2 c = search accepted
+returns c = search (sfits-of, in-types)
 
 pub record-spec : {M : Type 1} → statement M
-record-spec =
-    tie.close
-    (tie.spec
-    record-refusal-requires
-    refused-record-requires
-    returns
-    read-record-requires
-    returns-2)
+record-spec = tie.close (tie.spec call-requires list-rounding-requires returns)
