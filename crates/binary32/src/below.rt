@@ -2,15 +2,15 @@
 ghost use Rattle.ieee.specs.Format.{binary32};
 ghost use Rattle.pattern.specs.Parts.{FieldsOf};
 ghost use Rattle.pattern.specs.Operand.{Ordinary};
-ghost use Rattle.rounding.specs.Neighbour.{BelowResult};
+ghost use Rattle.neighbour.specs.Neighbour.{BelowResult};
 use floors::floor_of;
 use kinds::Op;
+use neighbour::Neighbour;
+use neighbour::lower;
+use neighbour::scales::scales_of;
 use pattern::Width;
 use pattern::operand::scale;
 use pattern::parts::Parts;
-use rounding::neighbour::Neighbour;
-use rounding::neighbour::lower;
-use rounding::scales::scales_of;
 
 pub fn below(op: Op, x: Parts) -> Neighbour
     requires { ⌜ Ordinary binary32 (x .unsigned) × FieldsOf binary32 x ⌝ }

@@ -21,11 +21,11 @@ use Rattle.pattern.specs.declared.Width.the-variants.{Binary64}
 use Rattle.pattern.specs.declared.operand.Scaled.{Scaled}
 use Rattle.raw64.specs.declared.Tried.{Tried}
 use Rattle.raw64.specs.Tried.{triedOf}
-use Rattle.rounding.specs.Scales.{ScalesOf}
-use Rattle.rounding.specs.Neighbour.{BelowResult}
-use Rattle.rounding.specs.declared.scales.Scales.{Scales}
-use Rattle.rounding.specs.declared.neighbour.Neighbour.{Neighbour}
-use Rattle.rounding.proofs.Results.{operand-of}
+use Rattle.neighbour.specs.Scales.{ScalesOf}
+use Rattle.neighbour.specs.Neighbour.{BelowResult}
+use Rattle.neighbour.specs.declared.scales.Scales.{Scales}
+use Rattle.neighbour.specs.declared.Neighbour.{Neighbour}
+use Rattle.neighbour.proofs.Results.{operand-of}
 use Rattle.binary64.specs.Found.{FoundFor}
 
 module _ (t : ℕ) (s : Scaled) (h : Scaling Binary64 (magnitudeOf binary64 t) s) (k : Scales) (tables : List ℕ) where

@@ -8,7 +8,7 @@ use Rattle.significand.specs.Width.{k64, t64}
 use Rattle.significand.specs.Call.{isEntry}
 use Rattle.ieee.specs.Format.{binary64, magnitudeOf}
 use Rattle.ieee.specs.Normalized.{significandOf, exponentParity}
-use Rattle.rounding.specs.Neighbour.{BelowResult}
+use Rattle.neighbour.specs.Neighbour.{BelowResult}
 use Rattle.binary64.specs.declared.below.Found.{Found}
 
 -- t is the operand's pattern without sign

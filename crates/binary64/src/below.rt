@@ -10,12 +10,12 @@ ghost use Rattle.pattern.specs.Operand.{Ordinary};
 ghost use Rattle.binary64.specs.Found.{FoundFor};
 use floors64::floor_of;
 use kinds::Op;
+use neighbour::Neighbour;
+use neighbour::lower;
+use neighbour::scales::scales_of;
 use pattern::Width;
 use pattern::operand::scale;
 use pattern::parts::Parts;
-use rounding::neighbour::Neighbour;
-use rounding::neighbour::lower;
-use rounding::scales::scales_of;
 
 // A neighbour, where the entry that it needs is M.
 pub struct Found {

@@ -14,10 +14,10 @@ use Rattle.pattern.specs.declared.parts.Parts.{Parts}
 use Rattle.pattern.specs.declared.answer.Rounded.{Rounded}
 use Rattle.special.specs.Special.{specialTo}
 use Rattle.special.proofs.Parted.{special-parted, ordinary-parted}
-use Rattle.rounding.specs.Neighbour.{BelowResult}
+use Rattle.neighbour.specs.Neighbour.{BelowResult}
+use Rattle.neighbour.specs.declared.Neighbour.{Neighbour}
 use Rattle.rounding.specs.Rounded.{roundedFrom}
-use Rattle.rounding.specs.declared.neighbour.Neighbour.{Neighbour}
-use Rattle.rounding.proofs.Below.{rounded-finite}
+use Rattle.rounding.proofs.Finite.{rounded-finite}
 
 -- by the parts of the pattern
 module _ (w : Width) (op : Op) (mode : Mode) (b : ℕ) (x : Parts) (s : Bool) (r : Rounded) (p : PartsOf (formatOf w) b x)

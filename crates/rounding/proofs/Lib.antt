@@ -1,5 +1,3 @@
-pub mod Shifts
-pub mod Below
-pub mod Results
+pub mod Assembly
+pub mod Finite
 pub mod Answers
-pub mod Halving

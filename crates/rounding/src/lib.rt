@@ -1,7 +1,4 @@
-// From a floor with a guard bit to the pattern below the exact result, and from there to the rounded pattern and its flags.
-pub mod neighbour;
-pub mod scales;
-
+// From the pattern below the exact result to the rounded pattern and its flags.
 ghost use mathlib.Core.Path.{_≡_};
 ghost use mathlib.Core.Bool.{cond};
 ghost use Prim.Native.Nat.{_≤_, _<_};

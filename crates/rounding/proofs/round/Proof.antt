@@ -1,6 +1,6 @@
--- `rounding::round` meets its contract: each call gives one part of the definition. Assumes nothing.
+-- `rounding::round` meets its contract: each call gives one part of the answer. Assumes nothing.
 use borrow.Author.Needs.{needs}
-use Rattle.rounding.specs.Rounded.{roundedFrom}
+use Rattle.rounding.proofs.Assembly.{assembled}
 use Rattle.rounding.proofs.round.Statement.{statement}
 use Rattle.rounding.proofs.round.Tie as tie
 
@@ -35,8 +35,7 @@ with-sign-requires : tie.Need-with-sign-requires
 with-sign-requires c κs = search needs
 
 returns : tie.Need-returns
-unfolding roundedFrom
-returns c = record { bits-are = cc; flags-are = cc; pattern = search needs }
+returns c = search assembled
 
 pub round-spec : {M : Type 1} → statement M
 round-spec =

@@ -5,7 +5,7 @@ use Rattle.significand.specs.Width.{k32, t32}
 use Rattle.significand.proofs.Accepted.{operand-near}
 use Rattle.pattern.specs.declared.Width.the-variants.{Binary32}
 use Rattle.floors.proofs.Reaching.{floored}
-use Rattle.rounding.proofs.Results.{operand-of, floor-most, result-below}
+use Rattle.neighbour.proofs.Results.{operand-of, floor-most, result-below}
 use Rattle.binary32.proofs.below.below.Statement.{statement}
 use Rattle.binary32.proofs.below.below.Tie as tie
 

@@ -2,7 +2,7 @@
 use borrow.Author.Needs.{needs}
 use borrow.Author.Tests.{not-true, not-false}
 use Rattle.pattern.specs.declared.Width.the-variants.{Binary64}
-use Rattle.rounding.proofs.Results.{operand-of, floor-most, result-below}
+use Rattle.neighbour.proofs.Results.{operand-of, floor-most, result-below}
 use Rattle.binary64.proofs.Results.{near-of, not-found, found}
 use Rattle.binary64.proofs.below.below.Statement.{statement}
 use Rattle.binary64.proofs.below.below.Tie as tie

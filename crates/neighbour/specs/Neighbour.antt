@@ -4,7 +4,7 @@ use Prim.Native.Nat.{ℕ, _-_, min}
 use Rattle.kinds.specs.declared.Op.{Op}
 use Rattle.ieee.specs.Format.{Format, infinity, magnitudeOf}
 use Rattle.ieee.specs.Guarded.{floorPattern, guardBit, stickyBit, isBeyond, Below}
-use Rattle.rounding.specs.declared.neighbour.Neighbour.{Neighbour}
+use Rattle.neighbour.specs.declared.Neighbour.{Neighbour}
 
 -- from the floor q with a guard bit at the scale k
 unfoldable pub neighbourOf : Format → ℕ → Bool → ℕ → Neighbour

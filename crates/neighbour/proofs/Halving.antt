@@ -5,8 +5,8 @@ use native.Mathlib.Omega.{arith}
 use Rattle.kinds.specs.declared.Op.{Op}
 use Rattle.kinds.specs.declared.Op.the-variants.{Reciprocal, Root, InverseRoot}
 use Rattle.ieee.specs.Format.{Format}
-use Rattle.rounding.specs.Scales.{ScalesFrom, ScalesOf}
-use Rattle.rounding.specs.declared.scales.FirstScales.{FirstScales}
+use Rattle.neighbour.specs.Scales.{ScalesFrom, ScalesOf}
+use Rattle.neighbour.specs.declared.scales.FirstScales.{FirstScales}
 
 module _ (f : Format) (j : ℕ) (first : FirstScales) (h : ScalesFrom f first) (few : j + 2 < 2 ^ f .exponentBits + f .fractionBits) (op : Op) where
   pub reciprocal-scales : op ≡ Reciprocal → ScalesOf f op j (record { scale = first .reciprocal - j; parity = 0 })

@@ -1,8 +1,8 @@
--- `rounding::scales::scales_of` meets its contract: each operation has its scale. Assumes nothing.
+-- `neighbour::scales::scales_of` meets its contract: each operation has its scale. Assumes nothing.
 use borrow.Author.Needs.{needs}
-use Rattle.rounding.proofs.Halving.{reciprocal-scales, root-scales, inverse-scales}
-use Rattle.rounding.proofs.scales.scales_of.Statement.{statement}
-use Rattle.rounding.proofs.scales.scales_of.Tie as tie
+use Rattle.neighbour.proofs.Halving.{reciprocal-scales, root-scales, inverse-scales}
+use Rattle.neighbour.proofs.scales.scales_of.Statement.{statement}
+use Rattle.neighbour.proofs.scales.scales_of.Tie as tie
 
 first-scales-of-requires : tie.Need-first-scales-of-requires
 first-scales-of-requires c κs = search needs

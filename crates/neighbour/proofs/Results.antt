@@ -20,11 +20,11 @@ use Rattle.pattern.specs.declared.Width.{Width}
 use Rattle.pattern.specs.declared.Width.the-variants.{Binary32, Binary64}
 use Rattle.pattern.specs.declared.operand.Scaled.{Scaled}
 use Rattle.pattern.proofs.Magnitudes.{significand-least, significand-below}
-use Rattle.rounding.specs.Neighbour.{neighbourOf, BelowResult}
-use Rattle.rounding.specs.Scales.{ScalesOf}
-use Rattle.rounding.specs.declared.neighbour.Neighbour.{Neighbour}
-use Rattle.rounding.specs.declared.scales.Scales.{Scales}
-use Rattle.rounding.proofs.Below.{neighbour-below}
+use Rattle.neighbour.specs.Neighbour.{neighbourOf, BelowResult}
+use Rattle.neighbour.specs.Scales.{ScalesOf}
+use Rattle.neighbour.specs.declared.Neighbour.{Neighbour}
+use Rattle.neighbour.specs.declared.scales.Scales.{Scales}
+use Rattle.neighbour.proofs.Below.{neighbour-below}
 
 -- the unit of a format is that of far smaller numbers than its fractions need,
 pub wide : (w : Width) → 4 * formatOf w .fractionBits + 4 ≤ unitOf (formatOf w)

@@ -1,7 +1,7 @@
 // The scale at which the floor of an operation on a significand stands for the exact result.
 ghost use Prim.Native.Nat.{_+_, _^_, _<_};
 ghost use Rattle.pattern.specs.Width.{formatOf};
-ghost use Rattle.rounding.specs.Scales.{ScalesFrom, ScalesOf};
+ghost use Rattle.neighbour.specs.Scales.{ScalesFrom, ScalesOf};
 use kinds::Op;
 use pattern::Width;
 

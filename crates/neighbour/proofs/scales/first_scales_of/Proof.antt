@@ -1,8 +1,8 @@
--- `rounding::scales::first_scales_of` meets its contract: the numbers of each format compute. Assumes nothing.
+-- `neighbour::scales::first_scales_of` meets its contract: the numbers of each format compute. Assumes nothing.
 use native.Mathlib.Omega.{arith}
 use borrow.Author.Needs.{needs}
-use Rattle.rounding.proofs.scales.first_scales_of.Statement.{statement}
-use Rattle.rounding.proofs.scales.first_scales_of.Tie as tie
+use Rattle.neighbour.proofs.scales.first_scales_of.Statement.{statement}
+use Rattle.neighbour.proofs.scales.first_scales_of.Tie as tie
 
 enum-told : tie.Need-enum-told
 enum-told c = search needs

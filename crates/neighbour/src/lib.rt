@@ -1,8 +1,10 @@
-// From a floor with a guard bit to the pattern below the exact result.
+// From a floor with a guard bit at its scale to the pattern below the exact result.
+pub mod scales;
+
 ghost use mathlib.Core.Path.{_≡_};
 ghost use Prim.Native.Nat.{suc, _-_, _^_, _≤_, _<_, min};
 ghost use Rattle.pattern.specs.Width.{formatOf};
-ghost use Rattle.rounding.specs.Neighbour.{neighbourOf};
+ghost use Rattle.neighbour.specs.Neighbour.{neighbourOf};
 use pattern::Width;
 
 // The finite pattern below an exact result. The midpoint to the next is reached where `half` is true, and something lies above what

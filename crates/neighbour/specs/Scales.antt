@@ -5,8 +5,8 @@ use Rattle.kinds.specs.declared.Op.{Op}
 use Rattle.kinds.specs.declared.Op.the-variants.{Reciprocal}
 use Rattle.ieee.specs.Format.{Format, unitOf}
 use Rattle.ieee.specs.Floor.{scaleOf, parityOf}
-use Rattle.rounding.specs.declared.scales.Scales.{Scales}
-use Rattle.rounding.specs.declared.scales.FirstScales.{FirstScales}
+use Rattle.neighbour.specs.declared.scales.Scales.{Scales}
+use Rattle.neighbour.specs.declared.scales.FirstScales.{FirstScales}
 
 -- the scales at exponent 0, of the roots twice, and that every operand's exponent has its scale
 pub record ScalesFrom (f : Format) (r : FirstScales) : Type 0 where

@@ -1,9 +1,8 @@
--- `rounding::neighbour::lower` meets its contract: the shifts lose nothing but the bits that have no place. Assumes nothing.
+-- `neighbour::lower` meets its contract: the shifts lose nothing but the bits that have no place. Assumes nothing.
 use borrow.Author.Needs.{needs}
-use Rattle.rounding.specs.Neighbour.{neighbourOf}
-use Rattle.rounding.proofs.Shifts.{kept-whole, raised-fits, pattern-fits}
-use Rattle.rounding.proofs.neighbour.lower.Statement.{statement}
-use Rattle.rounding.proofs.neighbour.lower.Tie as tie
+use Rattle.neighbour.proofs.Shifts.{raised-fits, pattern-fits, worked-out}
+use Rattle.neighbour.proofs.lower.Statement.{statement}
+use Rattle.neighbour.proofs.lower.Tie as tie
 
 constants-requires : tie.Need-constants-requires
 constants-requires c κs = search needs
@@ -33,10 +32,7 @@ shl-t15 : tie.Need-shl-t15
 shl-t15 c = search needs
 
 returns : tie.Need-returns
-unfolding neighbourOf
-returns c =
-    let start = c .before .before .before .before .before .before .before in
-    cc (kept-whole (start .args .q) (c .before .before .before .before .before .saturating-sub .result) (start .fits .q .fits))
+returns c = search worked-out
 
 pub lower-spec : {M : Type 1} → statement M
 lower-spec =

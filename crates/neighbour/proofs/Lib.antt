@@ -1,0 +1,4 @@
+pub mod Shifts
+pub mod Below
+pub mod Results
+pub mod Halving

@@ -1,0 +1,2 @@
+pub mod Neighbour
+pub mod Scales
