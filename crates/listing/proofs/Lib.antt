@@ -1,4 +1,2 @@
-pub mod RowRecords
-pub mod LiftedRows
 pub mod Whole
 pub mod Replies

@@ -1,2 +1,1 @@
 pub mod Reply
-pub mod Row

@@ -19,7 +19,7 @@ use Rattle.cutter.specs.Accepted.{Sizes, Ready}
 use Rattle.cutter.specs.Map.{Inner, trailerOf}
 use Rattle.cutter.proofs.Lengths.{length-record}
 use Rattle.cutter.proofs.Points.{record-at}
-use Rattle.listing.specs.Row.{rowRecord, rowBytes}
+use Rattle.rows.specs.Row.{rowRecord, rowBytes}
 use Rattle.trailer.specs.declared.Fields.{Fields}
 
 -- ---- the inner points of a row

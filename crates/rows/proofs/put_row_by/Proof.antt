@@ -1,8 +1,8 @@
--- `listing::put_row_by` meets its contract: the row as it is put, or that lifted. Assumes nothing.
+-- `rows::put_row_by` meets its contract: the row as it is put, or that lifted. Assumes nothing.
 use borrow.Author.Needs.{needs}
-use Rattle.listing.proofs.LiftedRows.{row-reaches, row-by-lifted, row-by-touching}
-use Rattle.listing.proofs.put_row_by.Statement.{statement}
-use Rattle.listing.proofs.put_row_by.Tie as tie
+use Rattle.rows.proofs.LiftedRows.{row-reaches, row-by-lifted, row-by-touching}
+use Rattle.rows.proofs.put_row_by.Statement.{statement}
+use Rattle.rows.proofs.put_row_by.Tie as tie
 
 put-row-requires : tie.Need-put-row-requires
 put-row-requires c κs = search needs

@@ -24,8 +24,8 @@ use Rattle.cutter.proofs.Points.{same-centre}
 use Rattle.cutter.proofs.Entries.{record-entry}
 use Rattle.lift.specs.Record.{centreRead, Reaches}
 use Rattle.lift.proofs.Reaching.{touching-reaches, touching-small}
-use Rattle.listing.specs.Row.{rowRecord, rowBytes, standing, liftedRecord, RowReaches}
-use Rattle.listing.proofs.RowRecords.{inner-of, row-room, record-is, length-row-record, length-row}
+use Rattle.rows.specs.Row.{rowRecord, rowBytes, standing, liftedRecord, RowReaches}
+use Rattle.rows.proofs.RowRecords.{inner-of, row-room, record-is, length-row-record, length-row}
 
 length-lifted : (m : List ℕ) (t : Fields) (row : ℕ) (b : List ℕ) (n : ℕ) → length (liftedRecord m t row b n) ≡ 12
 unfolding liftedRecord recordBytes wordBytes

@@ -1,12 +1,12 @@
--- `listing::lift_row` meets its contract: after n turns the row's first n records are lifted, and the others still stand. Assumes nothing.
+-- `rows::lift_row` meets its contract: after n turns the row's first n records are lifted, and the others still stand. Assumes nothing.
 use Prim.Native.Nat.{_-_, _*_}
 use borrow.Author.Needs.{needs}
-use Rattle.listing.proofs.RowRecords.{inner-of, row-fits, place-fits}
-use Rattle.listing.proofs.LiftedRows.{reaches-still, lifts-more, record-room, row-lifted}
-use Rattle.listing.specs.Row.{liftedRecord}
+use Rattle.rows.proofs.RowRecords.{inner-of, row-fits, place-fits}
+use Rattle.rows.proofs.LiftedRows.{reaches-still, lifts-more, record-room, row-lifted}
+use Rattle.rows.specs.Row.{liftedRecord}
 use Rattle.words.proofs.Runs.{Written, written-none}
-use Rattle.listing.proofs.lift_row.Statement.{statement}
-use Rattle.listing.proofs.lift_row.Tie as tie
+use Rattle.rows.proofs.lift_row.Statement.{statement}
+use Rattle.rows.proofs.lift_row.Tie as tie
 
 abbrev Inv-loop : tie.InvT-loop
 Inv-loop map out₀ trailer row count first n₀ out n =

@@ -1,11 +1,11 @@
--- `listing::put_points` meets its contract: after some turns the records of so many rows are put. Assumes nothing.
+-- `rows::put_points` meets its contract: after some turns the records of so many rows are put. Assumes nothing.
 use Prim.Native.Nat.{_-_}
 use borrow.Author.Needs.{needs}
-use Rattle.listing.proofs.RowRecords.{rows-more, rows-put}
-use Rattle.listing.specs.Row.{rowBytes}
+use Rattle.rows.proofs.RowRecords.{rows-more, rows-put}
+use Rattle.rows.specs.Row.{rowBytes}
 use Rattle.words.proofs.Runs.{Written, written-none}
-use Rattle.listing.proofs.put_points.Statement.{statement}
-use Rattle.listing.proofs.put_points.Tie as tie
+use Rattle.rows.proofs.put_points.Statement.{statement}
+use Rattle.rows.proofs.put_points.Tie as tie
 
 abbrev Inv-loop : tie.InvT-loop
 Inv-loop rule mode map out₀ trailer rows row₀ out row =

@@ -1,12 +1,12 @@
--- `listing::put_row` meets its contract: after n turns the row's first n records are put. Assumes nothing.
+-- `rows::put_row` meets its contract: after n turns the row's first n records are put. Assumes nothing.
 use Prim.Native.Nat.{_-_, _*_}
 use Rattle.kinds.specs.declared.Rule.the-variants.{Touching}
 use borrow.Author.Needs.{needs}
-use Rattle.listing.proofs.RowRecords.{inner-of, row-fits, place-fits, points-more, point-room, row-put}
-use Rattle.listing.specs.Row.{rowRecord}
+use Rattle.rows.proofs.RowRecords.{inner-of, row-fits, place-fits, points-more, point-room, row-put}
+use Rattle.rows.specs.Row.{rowRecord}
 use Rattle.words.proofs.Runs.{Written, written-none}
-use Rattle.listing.proofs.put_row.Statement.{statement}
-use Rattle.listing.proofs.put_row.Tie as tie
+use Rattle.rows.proofs.put_row.Statement.{statement}
+use Rattle.rows.proofs.put_row.Tie as tie
 
 abbrev Inv-loop : tie.InvT-loop
 Inv-loop mode map out₀ trailer row count first n₀ out n =
