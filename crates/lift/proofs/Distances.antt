@@ -1,5 +1,5 @@
 -- The squares of level distances, as the code works them out, are those from the centre to the heights' places. Assumes nothing.
-use Prim.Native.Nat.{ℕ, _+_, _-_, _*_, _^_, _≤_, _<_}
+use Prim.Native.Nat.{ℕ, _+_, _-_, _*_, _≤_}
 use mathlib.Core.Path.{_≡_, refl, sym, ap, ap₂, _∙_}
 use mathlib.Core.Bool.{Bool, true, false, cond}
 use mathlib.Core.List.{List}
@@ -18,9 +18,9 @@ use Rattle.cutter.specs.Limits.{stepMost, radiusMost}
 use Rattle.cutter.specs.Map.{heightAt}
 use Rattle.cutter.specs.Centre.{Centre}
 use Rattle.cutter.specs.Lift.{contactAt, threeAt, nineAt}
-use Rattle.lift.specs.Squares.{squaresOf, Small}
-use Rattle.lift.specs.declared.Squares.{Squares}
-use Rattle.lift.specs.Biased.{contactFrom, threeFrom, nineFrom, centreFrom}
+use Rattle.raising.specs.Squares.{Small}
+use Rattle.raising.specs.Biased.{contactFrom, threeFrom, nineFrom}
+use Rattle.lift.specs.Offset.{squaresOf, centreFrom}
 
 -- ---- the code's numbers
 
@@ -68,19 +68,6 @@ module _ (o : Signed) (step : ℕ) (h : o .magnitude ≤ radiusMost) (k : step �
     small-on = record { before = small-back .behind; own = small-back .own; behind = small-back .before }
 
 pub ruleset squares-fit = (near-fits, own-fits, far-fits)
-
--- two of them are added
-module _ (s : Squares) (y : ℕ) (h : Small s) (k : y < 2 ^ 36) where
-  pub before-fits : Fits w64 (s .before + y)
-  before-fits = omega (arith, h .before)
-
-  pub beside-fits : Fits w64 (s .own + y)
-  beside-fits = omega (arith, h .own)
-
-  pub behind-fits : Fits w64 (s .behind + y)
-  behind-fits = omega (arith, h .behind)
-
-pub ruleset sums-fit = (before-fits, beside-fits, behind-fits)
 
 -- ---- from the centre
 

@@ -1,3 +1,2 @@
-pub mod Squares
-pub mod Biased
+pub mod Offset
 pub mod Record

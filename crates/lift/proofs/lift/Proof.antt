@@ -2,7 +2,7 @@
 use borrow.Author.Needs.{needs}
 use Rattle.cutter.proofs.Places.{place-in}
 use Rattle.maps.proofs.Places.{line-fits, place-fits}
-use Rattle.lift.proofs.Steps.{lifted-is}
+use Rattle.lift.proofs.Lifting.{lifted-is}
 use Rattle.lift.proofs.lift.Statement.{statement}
 use Rattle.lift.proofs.lift.Tie as tie
 

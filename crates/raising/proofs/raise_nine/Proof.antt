@@ -1,8 +1,8 @@
--- `lift::raise_nine` meets its contract: one row after the other. Assumes nothing.
+-- `raising::raise_nine` meets its contract: one row after the other. Assumes nothing.
 use borrow.Author.Needs.{needs}
-use Rattle.lift.proofs.Steps.{nine-raised}
-use Rattle.lift.proofs.raise_nine.Statement.{statement}
-use Rattle.lift.proofs.raise_nine.Tie as tie
+use Rattle.raising.proofs.Steps.{nine-raised}
+use Rattle.raising.proofs.raise_nine.Statement.{statement}
+use Rattle.raising.proofs.raise_nine.Tie as tie
 
 sub-raise-row : tie.Need-sub-raise-row
 sub-raise-row c = search needs

@@ -1,8 +1,8 @@
--- `lift::nudge` meets its contract: a step by one is not past the lifted z. Assumes nothing.
+-- `raising::nudge` meets its contract: a step by one is not past the lifted z. Assumes nothing.
 use borrow.Author.Needs.{needs}
-use Rattle.lift.proofs.Steps.{nudges, keeps-off}
-use Rattle.lift.proofs.nudge.Statement.{statement}
-use Rattle.lift.proofs.nudge.Tie as tie
+use Rattle.raising.proofs.Steps.{nudges, keeps-off}
+use Rattle.raising.proofs.nudge.Statement.{statement}
+use Rattle.raising.proofs.nudge.Tie as tie
 
 touches-requires : tie.Need-touches-requires
 touches-requires c κs = search needs

@@ -1,8 +1,8 @@
--- `lift::raise_over` meets its contract: the test tells whether the height lifts z. Assumes nothing.
+-- `raising::raise_over` meets its contract: the test tells whether the height lifts z. Assumes nothing.
 use borrow.Author.Needs.{needs}
-use Rattle.lift.proofs.Steps.{square-fits, square-small, square-above, square-some, raises, stays, raised-small, raised-fits}
-use Rattle.lift.proofs.raise_over.Statement.{statement}
-use Rattle.lift.proofs.raise_over.Tie as tie
+use Rattle.raising.proofs.Steps.{square-fits, square-small, square-above, square-some, raises, stays, raised-small, raised-fits}
+use Rattle.raising.proofs.raise_over.Statement.{statement}
+use Rattle.raising.proofs.raise_over.Tie as tie
 
 touches-requires : tie.Need-touches-requires
 touches-requires c κs = search needs

@@ -1,8 +1,8 @@
--- `lift::touches` meets its contract: the differences are those of naturals. Assumes nothing.
+-- `raising::touches` meets its contract: the differences are those of naturals. Assumes nothing.
 use borrow.Author.Needs.{needs}
-use Rattle.lift.proofs.Steps.{above-fits, square-fits}
-use Rattle.lift.proofs.touches.Statement.{statement}
-use Rattle.lift.proofs.touches.Tie as tie
+use Rattle.raising.proofs.Steps.{above-fits, square-fits}
+use Rattle.raising.proofs.touches.Statement.{statement}
+use Rattle.raising.proofs.touches.Tie as tie
 
 less-requires : tie.Need-less-requires
 less-requires c κs = search needs

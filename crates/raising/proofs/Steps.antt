@@ -11,22 +11,18 @@ use lib.IntN.{ℤ}
 use mir.Syntax.{w64}
 use mir.Val.{Fits}
 use Rattle.numbers.specs.Least.{LeastFrom, NotPast}
-use Rattle.numbers.proofs.Least.{Monotone, least-then, least-from, least-same, first, second}
+use Rattle.numbers.proofs.Least.{Monotone, least-then, least-from, least-same}
 use Rattle.numbers.proofs.Differences.{diff-more}
 use Rattle.numbers.proofs.Squares.{square-below}
 use Rattle.words.specs.Word.{wordAt}
 use Rattle.words.specs.Signed.{signed}
-use Rattle.words.specs.declared.Signed.{Signed}
 use Rattle.cutter.specs.Limits.{heightMost}
-use Rattle.cutter.specs.Map.{Inner}
-use Rattle.cutter.specs.Lift.{Contact, meets, meetsAll, nineAt, liftedOver}
-use Rattle.cutter.proofs.Lifts.{meets-diff, all-up, all-append, lifted-biased}
+use Rattle.cutter.specs.Lift.{Contact, meets, meetsAll}
+use Rattle.cutter.proofs.Lifts.{meets-diff, all-up, all-append}
 use Rattle.ceiling.specs.Root.{ceilingRoot}
 use Rattle.ceiling.proofs.Least.{ceiling-reaches, ceiling-least}
-use Rattle.lift.specs.Squares.{squaresOf}
-use Rattle.lift.specs.Biased.{lowered, contactFrom, threeFrom, nineFrom, centreFrom, meetsOne, meetsThese}
-use Rattle.lift.specs.declared.Squares.{Squares}
-use Rattle.lift.proofs.Distances.{nine-is}
+use Rattle.raising.specs.Biased.{lowered, contactFrom, threeFrom, nineFrom, meetsOne, meetsThese}
+use Rattle.raising.specs.declared.Squares.{Squares}
 
 and-true : (b : Bool) → (b && true) ≡ b
 and-true true = refl
@@ -149,17 +145,6 @@ module _ (radius : ℕ) where
       these-then (contactFrom m i (x .before + y) ∷ []) (contactFrom m (i + 1) (x .own + y) ∷ contactFrom m (i + 2) (x .behind + y) ∷ []) z r₀ r₂ p
       (these-then (contactFrom m (i + 1) (x .own + y) ∷ []) (contactFrom m (i + 2) (x .behind + y) ∷ []) r₀ r₁ r₂ o n)
 
-  -- what meets the rule for all meets it for the second of the middle row
-  middle : (m : List ℕ) (i j : ℕ) (x : Squares) (v : ℕ) (ks ls : List Contact) (h : ℕ) (n : ℕ) → i + 1 ≡ j → lowered h ≡ signed (wordAt m (4 * j))
-      → T (meetsThese radius (ks ++ (threeFrom m i x v ++ ls)) n) → T (meetsOne radius h (x .own + v) n)
-  unfolding meetsAll
-  middle m i j x v ks ls h n place e t =
-      let all = subst T (all-append radius ks (threeFrom m i x v ++ ls) (lowered n)) t in
-      let behind = second (meetsThese radius ks n) (meetsThese radius (threeFrom m i x v ++ ls) n) all in
-      let own = second (meets radius (contactFrom m i (x .before + v)) (lowered n)) _ behind in
-      subst (λ (k : ℤ). T (meets radius (record { height = k; apart = x .own + v }) (lowered n))) (ap (λ (j : ℕ). signed (wordAt m (4 * j))) place ∙ sym e)
-      (first (meets radius (contactFrom m (i + 1) (x .own + v)) (lowered n)) _ own)
-
 -- the nine round a point
 pub nine-raised : (m : List ℕ) (w radius c q : ℕ) (x y : Squares) (z r₁ r₂ r₃ : ℕ)
     → LeastFrom (meetsThese radius (threeFrom m ((q - 1) * w + c - 1) x (y .before))) z r₁
@@ -171,19 +156,3 @@ nine-raised m w radius c q x y z r₁ r₂ r₃ f₁ f₂ f₃ =
     let b = threeFrom m (q * w + c - 1) x (y .own) in
     let e = threeFrom m ((q + 1) * w + c - 1) x (y .behind) in
     these-then radius a (b ++ e) z r₁ r₃ f₁ (these-then radius b e r₁ r₂ r₃ f₂ f₃)
-
--- from a start that is not past its own height's
-pub lifted-is : (m : List ℕ) (w d step radius c q : ℕ) (x y : Signed) (xs ys : Squares) (h z n r : ℕ)
-    → Inner w d c q → xs ≡ squaresOf x step → ys ≡ squaresOf y step → lowered h ≡ signed (wordAt m (4 * (q * w + c)))
-    → NotPast (meetsOne radius h (xs .own + ys .own)) z n
-    → LeastFrom (meetsThese radius (nineFrom m w c q xs ys)) n r
-    → r < 2 ^ 31 → lowered r ≡ liftedOver radius (nineAt m w step (centreFrom step c q x y) c q) (lowered z)
-lifted-is m w d step radius c q x y xs ys h z n r i ex ey eh nudged all small =
-    let a = threeFrom m ((q - 1) * w + c - 1) xs (ys .before) in
-    let e = threeFrom m ((q + 1) * w + c - 1) xs (ys .behind) in
-    let ks = nineFrom m w c q xs ys in
-    let whole : LeastFrom (meetsThese radius ks) z r =
-    least-from (meetsOne radius h (xs .own + ys .own)) (meetsThese radius ks) z n r
-    (λ n t. middle radius m (q * w + c - 1) (q * w + c) xs (ys .own) a e h n (omega (arith, i .left)) eh t) nudged all in
-    let nine : nineAt m w step (centreFrom step c q x y) c q ≡ ks = cc (nine-is m w step c q x y (i .left) (i .above)) in
-    lifted-biased radius ks heightMost z r whole (omega arith) ∙ ap (λ (ks : List Contact). liftedOver radius ks (lowered z)) (sym nine)

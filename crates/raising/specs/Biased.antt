@@ -2,14 +2,12 @@
 use Prim.Native.Nat.{ℕ, _+_, _-_, _*_}
 use mathlib.Core.Bool.{Bool}
 use mathlib.Core.List.{List, [], _∷_, _++_}
-use lib.IntN.{ℤ, pos, subℕ, _+ℤ_}
+use lib.IntN.{ℤ, subℕ}
 use Rattle.words.specs.Word.{wordAt}
-use Rattle.words.specs.Signed.{signed, withSign}
-use Rattle.words.specs.declared.Signed.{Signed}
+use Rattle.words.specs.Signed.{signed}
 use Rattle.cutter.specs.Limits.{heightMost}
-use Rattle.cutter.specs.Centre.{Centre}
 use Rattle.cutter.specs.Lift.{Contact, meets, meetsAll}
-use Rattle.lift.specs.declared.Squares.{Squares}
+use Rattle.raising.specs.declared.Squares.{Squares}
 
 -- the number that one with the bias stands for
 abbrev pub lowered : ℕ → ℤ
@@ -29,15 +27,6 @@ abbrev pub nineFrom : List ℕ → ℕ → ℕ → ℕ → Squares → Squares �
 nineFrom m w c q x y =
     threeFrom m ((q - 1) * w + c - 1) x (y .before)
     ++ (threeFrom m (q * w + c - 1) x (y .own) ++ threeFrom m ((q + 1) * w + c - 1) x (y .behind))
-
--- the centre that is x and y away from the point at column c and row q; its z is of no account
-abbrev pub centreFrom : ℕ → ℕ → ℕ → Signed → Signed → Centre
-centreFrom step c q x y =
-    record {
-      x = pos (c * step) +ℤ withSign (x .negative) (x .magnitude);
-      y = pos (q * step) +ℤ withSign (y .negative) (y .magnitude);
-      z = pos 0;
-    }
 
 -- whether a number with the bias meets the rule for one height, which has it too, or for all of these
 abbrev pub meetsOne : ℕ → ℕ → ℕ → ℕ → Bool

@@ -1,10 +1,10 @@
--- `lift::raise_row` meets its contract: one height after the other. Assumes nothing.
+-- `raising::raise_row` meets its contract: one height after the other. Assumes nothing.
 use borrow.Author.Needs.{needs}
-use Rattle.lift.proofs.Places.{line-fits, place-fits, places-in, places-fit}
-use Rattle.lift.proofs.Distances.{sums-fit}
-use Rattle.lift.proofs.Steps.{row-raised}
-use Rattle.lift.proofs.raise_row.Statement.{statement}
-use Rattle.lift.proofs.raise_row.Tie as tie
+use Rattle.raising.proofs.Places.{line-fits, place-fits, places-in, places-fit}
+use Rattle.raising.proofs.Sums.{sums-fit}
+use Rattle.raising.proofs.Steps.{row-raised}
+use Rattle.raising.proofs.raise_row.Statement.{statement}
+use Rattle.raising.proofs.raise_row.Tie as tie
 
 mul-count : tie.Need-mul-count
 mul-count c = search needs
