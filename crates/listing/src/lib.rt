@@ -10,6 +10,7 @@ ghost use Rattle.cutter.specs.Accepted.{Ready};
 ghost use Rattle.kinds.specs.declared.Rule.the-variants.{Touching};
 ghost use Rattle.listing.specs.Row.{rowBytes, liftedRecord, RowReaches};
 use centres::put_point;
+use ending::put;
 use kinds::Mode;
 use kinds::Rule;
 use lift::lift_record;
@@ -17,7 +18,6 @@ use sizes::records_length;
 use trailer::Fields;
 use trailer::Kind;
 use trailer::length_of;
-use trailer::put;
 use trailer::read_last;
 
 // The first of question 2 and the map's questions that is answered "no", or 0; the lent buffer has room for so many bytes.

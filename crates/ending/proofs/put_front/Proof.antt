@@ -1,8 +1,8 @@
--- `trailer::put_front` meets its contract: five runs, each right behind the one before, are the first 14 bytes. Assumes nothing.
-use Rattle.trailer.proofs.Putting.{front-put}
+-- `ending::put_front` meets its contract: five runs, each right behind the one before, are the first 14 bytes. Assumes nothing.
+use Rattle.ending.proofs.Putting.{front-put}
 use borrow.Author.Needs.{needs}
-use Rattle.trailer.proofs.put_front.Statement.{statement}
-use Rattle.trailer.proofs.put_front.Tie as tie
+use Rattle.ending.proofs.put_front.Statement.{statement}
+use Rattle.ending.proofs.put_front.Tie as tie
 
 put-four-requires : tie.Need-put-four-requires
 put-four-requires c κs = search needs

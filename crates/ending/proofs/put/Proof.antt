@@ -1,8 +1,8 @@
--- `trailer::put` meets its contract: front, radius and rounding are the trailer, whatever its kind. Assumes nothing.
-use Rattle.trailer.proofs.Putting.{trailer-put}
+-- `ending::put` meets its contract: front, radius and rounding are the trailer, whatever its kind. Assumes nothing.
+use Rattle.ending.proofs.Putting.{trailer-put}
 use borrow.Author.Needs.{needs}
-use Rattle.trailer.proofs.put.Statement.{statement}
-use Rattle.trailer.proofs.put.Tie as tie
+use Rattle.ending.proofs.put.Statement.{statement}
+use Rattle.ending.proofs.put.Tie as tie
 
 layout-of-requires : tie.Need-layout-of-requires
 layout-of-requires c κs = search needs

@@ -1,8 +1,9 @@
--- `trailer::put_radius` meets its contract: a law for each width. Assumes nothing.
-use Rattle.trailer.proofs.Putting.{room-word, room-half, radius-word, radius-half}
+-- `ending::put_radius` meets its contract: a law for each width. Assumes nothing.
+use Rattle.trailer.proofs.Layouts.{room-word, room-half}
+use Rattle.ending.proofs.Putting.{radius-word, radius-half}
 use borrow.Author.Needs.{needs}
-use Rattle.trailer.proofs.put_radius.Statement.{statement}
-use Rattle.trailer.proofs.put_radius.Tie as tie
+use Rattle.ending.proofs.put_radius.Statement.{statement}
+use Rattle.ending.proofs.put_radius.Tie as tie
 
 put-word-requires : tie.Need-put-word-requires
 put-word-requires c κs = search room-word

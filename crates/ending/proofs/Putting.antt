@@ -36,15 +36,6 @@ front-put at letters f l l₁ l₂ l₃ l₄ l₅ n h p q r s t =
     t ∙ splice-behind at 12 (letters ++ w ++ x ++ y) z l l₄ (simp length-append (omega arith)) (omega arith) e₄
 
 -- the radius and the rounding, by their widths
-pub room-word : (wide : Bool) (at n : ℕ) → wide ≡ true → at + radiusSize wide ≤ n → at + 4 ≤ n
-room-word wide at n e h = rw e at h
-
-pub room-half : (wide : Bool) (at n : ℕ) → wide ≡ false → at + radiusSize wide ≤ n → at + 2 ≤ n
-room-half wide at n e h = rw e at h
-
-pub room-last : (rounded : Bool) (at n : ℕ) → rounded ≡ true → at + roundingSize rounded ≤ n → at + 2 ≤ n
-room-last rounded at n e h = rw e at h
-
 pub radius-word : (wide : Bool) (at x : ℕ) (l l₁ : List ℕ) → wide ≡ true
     → l₁ ≡ splice at (wordBytes x) l → l₁ ≡ splice at (radiusBytes wide x) l
 radius-word wide at x l l₁ e p = rw e p

@@ -1,8 +1,9 @@
--- `trailer::put_rounding` meets its contract: a law for a rounding and one for none. Assumes nothing.
-use Rattle.trailer.proofs.Putting.{room-last, rounding-half, rounding-none}
+-- `ending::put_rounding` meets its contract: a law for a rounding and one for none. Assumes nothing.
+use Rattle.trailer.proofs.Layouts.{room-last}
+use Rattle.ending.proofs.Putting.{rounding-half, rounding-none}
 use borrow.Author.Needs.{needs}
-use Rattle.trailer.proofs.put_rounding.Statement.{statement}
-use Rattle.trailer.proofs.put_rounding.Tie as tie
+use Rattle.ending.proofs.put_rounding.Statement.{statement}
+use Rattle.ending.proofs.put_rounding.Tie as tie
 
 put-half-requires : tie.Need-put-half-requires
 put-half-requires c κs = search room-last
