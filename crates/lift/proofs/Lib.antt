@@ -1,4 +1,2 @@
-pub mod Distances
 pub mod Records
 pub mod Reaching
-pub mod Lifting

@@ -23,7 +23,7 @@ use Rattle.cutter.specs.Lift.{nineAt, liftedOver, lifted}
 use Rattle.cutter.specs.Accepted.{Sizes, Steps}
 use Rattle.cutter.proofs.Lifts.{same-nine}
 use Rattle.raising.specs.Biased.{lowered}
-use Rattle.lift.specs.Offset.{centreFrom}
+use Rattle.nine.specs.Offset.{centreFrom}
 use Rattle.lift.specs.Record.{centreOfWords, centreRead, Reaches}
 
 -- ---- from a place

@@ -1,2 +1,1 @@
-pub mod Offset
 pub mod Record

@@ -1,74 +1,26 @@
-// The lift of a record's centre over the nine heights round its point. Heights have a bias, so that none is negative.
+// The lift of a record: its words are taken, z is lifted over the nine heights round its point, and the words are put back.
 ghost use mathlib.Core.Path.{_≡_};
-ghost use Prim.Native.Nat.{_+_, _-_, _*_, _^_, _≤_, _<_};
+ghost use Prim.Native.Nat.{_+_, _≤_, _<_};
 ghost use lib.ListN.{length};
 ghost use lib.IntN.{pos, natAbs, _-ℤ_};
 ghost use Rattle.words.specs.Signed.{signed, wordOf};
 ghost use Rattle.words.specs.Parts.{partsOf};
 ghost use Rattle.words.specs.Splice.{splice};
-ghost use Rattle.cutter.specs.Limits.{stepMost, radiusMost};
+ghost use Rattle.cutter.specs.Limits.{radiusMost};
 ghost use Rattle.cutter.specs.Map.{Inner};
 ghost use Rattle.cutter.specs.Centre.{recordBytes};
-ghost use Rattle.cutter.specs.Lift.{nineAt, liftedOver, lifted};
+ghost use Rattle.cutter.specs.Lift.{lifted};
 ghost use Rattle.cutter.specs.Accepted.{Ready};
-ghost use Rattle.raising.specs.Biased.{lowered};
-ghost use Rattle.raising.specs.Squares.{Small};
-ghost use Rattle.lift.specs.Offset.{squaresOf, centreFrom};
 ghost use Rattle.lift.specs.Record.{centreOfWords, centreRead, Reaches};
 use maps::biased;
-use maps::height_at;
 use maps::unbiased;
-use raising::Squares;
-use raising::nudge;
-use raising::raise_nine;
+use nine::lift;
 use trailer::Fields;
 use words::Signed;
-use words::difference;
 use words::put_word;
 use words::signed_of;
 use words::word_at;
 use words::wrapping_add_signed;
-
-// The squares of the level distances from a centre with this offset from its point.
-fn squares_of(offset: Signed, step: u64) -> Squares
-    requires { ⌜ (offset .magnitude ≤ radiusMost) × (step ≤ stepMost) ⌝ }
-    ensures { λ r. ⌜ (r ≡ squaresOf offset step) × Small r ⌝ }
-{
-    let own = offset.magnitude;
-    let near = difference(own, step).magnitude;
-    let far = own + step;
-    if offset.negative {
-        Squares {
-            before: near * near,
-            own: own * own,
-            behind: far * far,
-        }
-    } else {
-        Squares {
-            before: far * far,
-            own: own * own,
-            behind: near * near,
-        }
-    }
-}
-
-// z of the centre at an inner point, x and y away from it, lifted.
-fn lift(map: &[u8], trailer: Fields, column: usize, row: usize, x: Signed, y: Signed, z: u64) -> u64
-    requires { ⌜ Ready (now map) trailer ⌝ }
-    requires { ⌜ Inner (trailer .width) (trailer .depth) column row ⌝ }
-    requires { ⌜ (x .magnitude ≤ radiusMost) × (y .magnitude ≤ radiusMost) × (z < 2 ^ 30) ⌝ }
-    ensures { λ r. ⌜ (lowered r ≡ liftedOver (trailer .radius) (nineAt (now (map .entry)) (trailer .width) (trailer .step) (centreFrom (trailer .step) column row x y) column row) (lowered z)) × (r < 2 ^ 31) ⌝ }
-{
-    let xs = squares_of(x, trailer.step);
-    let ys = squares_of(y, trailer.step);
-    let own = height_at(
-        map,
-        row * trailer.width + column,
-        trailer.width * trailer.depth,
-    );
-    let nudged = nudge(z, own, xs.own + ys.own, trailer.radius);
-    raise_nine(map, trailer, column, row, xs, ys, nudged)
-}
 
 // How far the coordinate with this word is from a place.
 fn away(word: u64, place: u64) -> Signed

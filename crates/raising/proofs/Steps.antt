@@ -21,7 +21,7 @@ use Rattle.cutter.specs.Lift.{Contact, meets, meetsAll}
 use Rattle.cutter.proofs.Lifts.{meets-diff, all-up, all-append}
 use Rattle.ceiling.specs.Root.{ceilingRoot}
 use Rattle.ceiling.proofs.Least.{ceiling-reaches, ceiling-least}
-use Rattle.raising.specs.Biased.{lowered, contactFrom, threeFrom, nineFrom, meetsOne, meetsThese}
+use Rattle.raising.specs.Biased.{lowered, contactFrom, threeFrom, meetsOne, meetsThese}
 use Rattle.raising.specs.declared.Squares.{Squares}
 
 and-true : (b : Bool) → (b && true) ≡ b
@@ -126,7 +126,7 @@ module _ (radius : ℕ) where
       subst (λ (z : ℤ). T (meetsAll radius ks z)) (diff-more a heightMost (b - a) ∙ ap lowered e) (all-up radius ks (lowered a) (b - a) t)
 
   -- one list after the other
-  these-then : (ks ls : List Contact) (x y z : ℕ) → LeastFrom (meetsThese radius ks) x y → LeastFrom (meetsThese radius ls) y z
+  pub these-then : (ks ls : List Contact) (x y z : ℕ) → LeastFrom (meetsThese radius ks) x y → LeastFrom (meetsThese radius ls) y z
       → LeastFrom (meetsThese radius (ks ++ ls)) x z
   these-then ks ls x y z f g =
       least-same (λ (n : ℕ). meetsThese radius ks n && meetsThese radius ls n) (meetsThese radius (ks ++ ls)) x z
@@ -144,15 +144,3 @@ module _ (radius : ℕ) where
       let n = one-is h₂ (x .behind + y) _ r₁ r₂ e₂ f₂ in
       these-then (contactFrom m i (x .before + y) ∷ []) (contactFrom m (i + 1) (x .own + y) ∷ contactFrom m (i + 2) (x .behind + y) ∷ []) z r₀ r₂ p
       (these-then (contactFrom m (i + 1) (x .own + y) ∷ []) (contactFrom m (i + 2) (x .behind + y) ∷ []) r₀ r₁ r₂ o n)
-
--- the nine round a point
-pub nine-raised : (m : List ℕ) (w radius c q : ℕ) (x y : Squares) (z r₁ r₂ r₃ : ℕ)
-    → LeastFrom (meetsThese radius (threeFrom m ((q - 1) * w + c - 1) x (y .before))) z r₁
-    → LeastFrom (meetsThese radius (threeFrom m (q * w + c - 1) x (y .own))) r₁ r₂
-    → LeastFrom (meetsThese radius (threeFrom m ((q + 1) * w + c - 1) x (y .behind))) r₂ r₃
-    → LeastFrom (meetsThese radius (nineFrom m w c q x y)) z r₃
-nine-raised m w radius c q x y z r₁ r₂ r₃ f₁ f₂ f₃ =
-    let a = threeFrom m ((q - 1) * w + c - 1) x (y .before) in
-    let b = threeFrom m (q * w + c - 1) x (y .own) in
-    let e = threeFrom m ((q + 1) * w + c - 1) x (y .behind) in
-    these-then radius a (b ++ e) z r₁ r₃ f₁ (these-then radius b e r₁ r₂ r₃ f₂ f₃)

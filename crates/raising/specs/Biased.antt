@@ -1,7 +1,7 @@
 -- Heights and z with a bias, as the code has them, and what it knows of a raised z. Assumes nothing.
-use Prim.Native.Nat.{ℕ, _+_, _-_, _*_}
+use Prim.Native.Nat.{ℕ, _+_, _*_}
 use mathlib.Core.Bool.{Bool}
-use mathlib.Core.List.{List, [], _∷_, _++_}
+use mathlib.Core.List.{List, [], _∷_}
 use lib.IntN.{ℤ, subℕ}
 use Rattle.words.specs.Word.{wordAt}
 use Rattle.words.specs.Signed.{signed}
@@ -21,12 +21,6 @@ contactFrom m i apart = record { height = signed (wordAt m (4 * i)); apart = apa
 abbrev pub threeFrom : List ℕ → ℕ → Squares → ℕ → List Contact
 threeFrom m i x y =
     contactFrom m i (x .before + y) ∷ contactFrom m (i + 1) (x .own + y) ∷ contactFrom m (i + 2) (x .behind + y) ∷ []
-
--- the nine round the point at column c and row q of a map that is w wide
-abbrev pub nineFrom : List ℕ → ℕ → ℕ → ℕ → Squares → Squares → List Contact
-nineFrom m w c q x y =
-    threeFrom m ((q - 1) * w + c - 1) x (y .before)
-    ++ (threeFrom m (q * w + c - 1) x (y .own) ++ threeFrom m ((q + 1) * w + c - 1) x (y .behind))
 
 -- whether a number with the bias meets the rule for one height, which has it too, or for all of these
 abbrev pub meetsOne : ℕ → ℕ → ℕ → ℕ → Bool

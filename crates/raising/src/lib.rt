@@ -1,11 +1,10 @@
-// z raised over heights of a map, each by one test of squares and a root where it fails. Heights have a bias, so that none is negative.
+// z raised over one height and over three of a row. Heights have a bias, so that none is negative.
 ghost use mathlib.Core.Path.{_≡_};
 ghost use Prim.Native.Nat.{_+_, _-_, _*_, _^_, _≤_, _<_};
 ghost use lib.Dec.{ltb};
-ghost use Rattle.cutter.specs.Map.{Inner};
 ghost use Rattle.cutter.specs.Accepted.{Ready};
 ghost use Rattle.numbers.specs.Least.{LeastFrom, NotPast};
-ghost use Rattle.raising.specs.Biased.{threeFrom, nineFrom, meetsOne, meetsThese};
+ghost use Rattle.raising.specs.Biased.{threeFrom, meetsOne, meetsThese};
 ghost use Rattle.raising.specs.Squares.{Small};
 use ceiling::ceiling_root;
 use maps::height_at;
@@ -61,7 +60,7 @@ pub fn nudge(z: u64, h: u64, apart: u64, radius: u64) -> u64
 }
 
 // z raised over three heights of a row, those round a column; y is the square of the row's level distance.
-fn raise_row(
+pub fn raise_row(
     map: &[u8],
     trailer: Fields,
     column: usize,
@@ -81,24 +80,4 @@ fn raise_row(
     let first = raise_over(z, height_at(map, i, count), x.before + y, radius);
     let second = raise_over(first, height_at(map, i + 1, count), x.own + y, radius);
     raise_over(second, height_at(map, i + 2, count), x.behind + y, radius)
-}
-
-// z raised over the nine heights round an inner point.
-pub fn raise_nine(
-    map: &[u8],
-    trailer: Fields,
-    column: usize,
-    row: usize,
-    x: Squares,
-    y: Squares,
-    z: u64,
-) -> u64
-    requires { ⌜ Ready (now map) trailer ⌝ }
-    requires { ⌜ Inner (trailer .width) (trailer .depth) column row ⌝ }
-    requires { ⌜ Small x × Small y × (z < 2 ^ 31) ⌝ }
-    ensures { λ r. ⌜ LeastFrom (meetsThese (trailer .radius) (nineFrom (now (map .entry)) (trailer .width) column row x y)) z r × (r < 2 ^ 31) ⌝ }
-{
-    let above = raise_row(map, trailer, column, row - 1, x, y.before, z);
-    let beside = raise_row(map, trailer, column, row, x, y.own, above);
-    raise_row(map, trailer, column, row + 1, x, y.behind, beside)
 }

@@ -1,10 +1,10 @@
--- `lift::lift` meets its contract: the start is not past the lifted z, and the nine heights raise it there. Assumes nothing.
+-- `nine::lift` meets its contract: the start is not past the lifted z, and the nine heights raise it there. Assumes nothing.
 use borrow.Author.Needs.{needs}
 use Rattle.cutter.proofs.Places.{place-in}
 use Rattle.maps.proofs.Places.{line-fits, place-fits}
-use Rattle.lift.proofs.Lifting.{lifted-is}
-use Rattle.lift.proofs.lift.Statement.{statement}
-use Rattle.lift.proofs.lift.Tie as tie
+use Rattle.nine.proofs.Lifting.{lifted-is}
+use Rattle.nine.proofs.lift.Statement.{statement}
+use Rattle.nine.proofs.lift.Tie as tie
 
 squares-of-requires : tie.Need-squares-of-requires
 squares-of-requires c κs = search needs

@@ -19,8 +19,8 @@ use Rattle.cutter.specs.Map.{heightAt}
 use Rattle.cutter.specs.Centre.{Centre}
 use Rattle.cutter.specs.Lift.{contactAt, threeAt, nineAt}
 use Rattle.raising.specs.Squares.{Small}
-use Rattle.raising.specs.Biased.{contactFrom, threeFrom, nineFrom}
-use Rattle.lift.specs.Offset.{squaresOf, centreFrom}
+use Rattle.raising.specs.Biased.{contactFrom, threeFrom}
+use Rattle.nine.specs.Offset.{squaresOf, nineFrom, centreFrom}
 
 -- ---- the code's numbers
 

@@ -1,4 +1,4 @@
--- From a start that is not past the rule for the point's own height, the nine heights raise z to the lifted one. Assumes nothing.
+-- Row by row, from a start that is not past its own height's rule, the nine heights raise z to the lifted one. Assumes nothing.
 use Prim.Native.Nat.{ℕ, _+_, _-_, _*_, _^_, _<_}
 use mathlib.Core.Path.{_≡_, sym, ap, subst, _∙_}
 use mathlib.Core.List.{List, _++_}
@@ -14,10 +14,23 @@ use Rattle.cutter.specs.Limits.{heightMost}
 use Rattle.cutter.specs.Map.{Inner}
 use Rattle.cutter.specs.Lift.{Contact, meets, meetsAll, nineAt, liftedOver}
 use Rattle.cutter.proofs.Lifts.{all-append, lifted-biased}
-use Rattle.raising.specs.Biased.{lowered, contactFrom, threeFrom, nineFrom, meetsOne, meetsThese}
+use Rattle.raising.specs.Biased.{lowered, contactFrom, threeFrom, meetsOne, meetsThese}
 use Rattle.raising.specs.declared.Squares.{Squares}
-use Rattle.lift.specs.Offset.{squaresOf, centreFrom}
-use Rattle.lift.proofs.Distances.{nine-is}
+use Rattle.raising.proofs.Steps.{these-then}
+use Rattle.nine.specs.Offset.{squaresOf, nineFrom, centreFrom}
+use Rattle.nine.proofs.Distances.{nine-is}
+
+-- the nine round a point
+pub nine-raised : (m : List ℕ) (w radius c q : ℕ) (x y : Squares) (z r₁ r₂ r₃ : ℕ)
+    → LeastFrom (meetsThese radius (threeFrom m ((q - 1) * w + c - 1) x (y .before))) z r₁
+    → LeastFrom (meetsThese radius (threeFrom m (q * w + c - 1) x (y .own))) r₁ r₂
+    → LeastFrom (meetsThese radius (threeFrom m ((q + 1) * w + c - 1) x (y .behind))) r₂ r₃
+    → LeastFrom (meetsThese radius (nineFrom m w c q x y)) z r₃
+nine-raised m w radius c q x y z r₁ r₂ r₃ f₁ f₂ f₃ =
+    let a = threeFrom m ((q - 1) * w + c - 1) x (y .before) in
+    let b = threeFrom m (q * w + c - 1) x (y .own) in
+    let e = threeFrom m ((q + 1) * w + c - 1) x (y .behind) in
+    these-then radius a (b ++ e) z r₁ r₃ f₁ (these-then radius b e r₁ r₂ r₃ f₂ f₃)
 
 -- what meets the rule for all meets it for the second of the middle row
 middle : (radius : ℕ) (m : List ℕ) (i j : ℕ) (x : Squares) (v : ℕ) (ks ls : List Contact) (h : ℕ) (n : ℕ) → i + 1 ≡ j → lowered h ≡ signed (wordAt m (4 * j))

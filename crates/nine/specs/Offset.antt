@@ -1,10 +1,13 @@
--- A centre by its offset from its point, as the code has it. Assumes nothing.
+-- A centre by its offset from its point, and the nine heights round that, as the code has them. Assumes nothing.
 use Prim.Native.Nat.{ℕ, _+_, _-_, _*_}
 use mathlib.Core.Bool.{cond}
+use mathlib.Core.List.{List, _++_}
 use lib.IntN.{pos, _+ℤ_}
 use Rattle.words.specs.Signed.{withSign}
 use Rattle.words.specs.declared.Signed.{Signed}
 use Rattle.cutter.specs.Centre.{Centre}
+use Rattle.cutter.specs.Lift.{Contact}
+use Rattle.raising.specs.Biased.{threeFrom}
 use Rattle.raising.specs.declared.Squares.{Squares}
 
 -- the centre that is x and y away from the point at column c and row q; its z is of no account
@@ -27,3 +30,9 @@ squaresOf offset step =
       own = own * own;
       behind = cond (offset .negative) (far * far) (near * near);
     }
+
+-- the nine round the point at column c and row q of a map that is w wide
+abbrev pub nineFrom : List ℕ → ℕ → ℕ → ℕ → Squares → Squares → List Contact
+nineFrom m w c q x y =
+    threeFrom m ((q - 1) * w + c - 1) x (y .before)
+    ++ (threeFrom m (q * w + c - 1) x (y .own) ++ threeFrom m ((q + 1) * w + c - 1) x (y .behind))

@@ -1,8 +1,8 @@
--- `lift::squares_of` meets its contract: the sign tells which side is near. Assumes nothing.
+-- `nine::squares_of` meets its contract: the sign tells which side is near. Assumes nothing.
 use borrow.Author.Needs.{needs}
-use Rattle.lift.proofs.Distances.{squares-fit, squares-back, squares-on, small-back, small-on}
-use Rattle.lift.proofs.squares_of.Statement.{statement}
-use Rattle.lift.proofs.squares_of.Tie as tie
+use Rattle.nine.proofs.Distances.{squares-fit, squares-back, squares-on, small-back, small-on}
+use Rattle.nine.proofs.squares_of.Statement.{statement}
+use Rattle.nine.proofs.squares_of.Tie as tie
 
 difference-requires : tie.Need-difference-requires
 difference-requires c κs = search needs

@@ -1,8 +1,8 @@
--- `raising::raise_nine` meets its contract: one row after the other. Assumes nothing.
+-- `nine::raise_nine` meets its contract: one row after the other. Assumes nothing.
 use borrow.Author.Needs.{needs}
-use Rattle.raising.proofs.Steps.{nine-raised}
-use Rattle.raising.proofs.raise_nine.Statement.{statement}
-use Rattle.raising.proofs.raise_nine.Tie as tie
+use Rattle.nine.proofs.Lifting.{nine-raised}
+use Rattle.nine.proofs.raise_nine.Statement.{statement}
+use Rattle.nine.proofs.raise_nine.Tie as tie
 
 sub-raise-row : tie.Need-sub-raise-row
 sub-raise-row c = search needs
