@@ -22,7 +22,8 @@ use Rattle.cutter.specs.Centre.{recordBytes}
 use Rattle.cutter.specs.Lift.{nineAt, liftedOver, lifted}
 use Rattle.cutter.specs.Accepted.{Sizes, Steps}
 use Rattle.cutter.proofs.Lifts.{same-nine}
-use Rattle.lift.specs.Biased.{lowered, centreFrom}
+use Rattle.raising.specs.Biased.{lowered}
+use Rattle.nine.specs.Offset.{centreFrom}
 use Rattle.lift.specs.Record.{centreOfWords, centreRead, Reaches}
 
 -- ---- from a place

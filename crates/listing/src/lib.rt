@@ -6,6 +6,7 @@ ghost use Rattle.words.specs.Splice.{splice};
 ghost use Rattle.cutter.specs.List.{listLength, listBytes};
 ghost use Rattle.cutter.specs.Call.{mapRefusal, listRefusal, bufferAfter};
 ghost use Rattle.listing.specs.Reply.{replyTo};
+use ending::put;
 use kinds::Mode;
 use kinds::Rule;
 use rows::put_points;
@@ -13,7 +14,6 @@ use sizes::records_length;
 use trailer::Fields;
 use trailer::Kind;
 use trailer::length_of;
-use trailer::put;
 use trailer::read_last;
 
 // What a list call gives back: refusal 0 with the length of the list; or the number of a question, with length 0.

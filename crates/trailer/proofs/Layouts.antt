@@ -47,6 +47,16 @@ unfolding halfBytes
 length-rounding true x = refl
 length-rounding false x = refl
 
+-- room for a radius or a rounding is room for its bytes
+pub room-word : (wide : Bool) (at n : ℕ) → wide ≡ true → at + radiusSize wide ≤ n → at + 4 ≤ n
+room-word wide at n e h = rw e at h
+
+pub room-half : (wide : Bool) (at n : ℕ) → wide ≡ false → at + radiusSize wide ≤ n → at + 2 ≤ n
+room-half wide at n e h = rw e at h
+
+pub room-last : (rounded : Bool) (at n : ℕ) → rounded ≡ true → at + roundingSize rounded ≤ n → at + 2 ≤ n
+room-last rounded at n e h = rw e at h
+
 -- a number of 16 bits is a radius in every kind
 pub radius-held : (wide : Bool) (x : ℕ) → x < 65536 → x < radiusEnd wide
 radius-held true x h = omega arith

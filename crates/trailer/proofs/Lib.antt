@@ -1,5 +1,4 @@
 pub mod Layouts
-pub mod Putting
 pub mod Readings
 pub mod RoundTrip
 pub mod Seeking

@@ -1,5 +1,5 @@
 -- `trailer::read_radius` meets its contract: a law for each width. Assumes nothing.
-use Rattle.trailer.proofs.Putting.{room-word, room-half}
+use Rattle.trailer.proofs.Layouts.{room-word, room-half}
 use Rattle.trailer.proofs.Readings.{radius-word-read, radius-half-read}
 use Rattle.trailer.proofs.read_radius.Statement.{statement}
 use Rattle.trailer.proofs.read_radius.Tie as tie

@@ -1,5 +1,5 @@
 -- `trailer::read_rounding` meets its contract: a law for a rounding and one for none. Assumes nothing.
-use Rattle.trailer.proofs.Putting.{room-last}
+use Rattle.trailer.proofs.Layouts.{room-last}
 use Rattle.trailer.proofs.Readings.{rounding-read, rounding-absent}
 use Rattle.trailer.proofs.read_rounding.Statement.{statement}
 use Rattle.trailer.proofs.read_rounding.Tie as tie
