@@ -17,7 +17,7 @@ use Rattle.words.specs.Splice.{splice}
 use Rattle.words.proofs.Splicing.{three-words}
 use Rattle.words.proofs.Differences.{abs-neg, signed-small, parts-pos, magnitude-is, negative-is}
 use Rattle.words.specs.declared.Signed.{Signed}
-use Rattle.cutter.specs.Offset.{squaredLength, offsetOf}
+use Rattle.cutter.specs.Offset.{roundedOver, squaredLength, offsetOf}
 use Rattle.cutter.proofs.Offsets.{offset-parts}
 use Rattle.cutter.proofs.Points.{height-is, record-is}
 use Rattle.offset.specs.Inverse.{ComponentRange}
@@ -62,6 +62,11 @@ module _ (n : Normal) (step radius : ℕ) (f : Measured n step) (g : Steps step 
 pub ruleset ranges = (ranges-x, ranges-y, ranges-z)
 
 -- ---- the offsets
+
+-- the sign kept and the magnitude rounded
+pub offset-made : (mode : Mode) (s : Signed) (magnitude radius l : ℕ) → magnitude ≡ roundedOver mode (s .negative) (s .magnitude * radius) l
+    → record { negative = s .negative; magnitude = magnitude } ≡ offsetParts mode s radius l
+offset-made mode s magnitude radius l e = ap (λ (m : ℕ). record { negative = s .negative; magnitude = m }) e
 
 pub offsets-are : (mode : Mode) (n : Normal) (step radius : ℕ) (x y z : Signed) → x ≡ offsetParts mode (n .x) radius (n .squared)
     → y ≡ offsetParts mode (n .y) radius (n .squared)
