@@ -15,6 +15,12 @@ use Rattle.ieee.specs.Answer.{Answer, isSpecial, toFinite, answerTo}
 use Rattle.pattern.specs.Operand.{Ordinary}
 use Rattle.special.specs.Special.{specialTo}
 
+-- the tests that tell a special operand, by the number of infinity and whether the operation is the reciprocal
+pub special-is : (f : Format) (op : Op) (s t i : ℕ) (b : Bool) → i ≡ infinity f → b ≡ isReciprocal op
+    → leb i t || eqb t 0 || (eqb s 1 && not b) ≡ isSpecial f op s t
+unfolding isSpecial
+special-is f op s t i b e n = ap (λ (i : ℕ). leb i t || eqb t 0 || (eqb s 1 && not b)) e ∙ ap (λ (b : Bool). leb (infinity f) t || eqb t 0 || (eqb s 1 && not b)) n
+
 -- an operand that is not special is finite and not zero
 pub ordinary-is : (f : Format) (op : Op) (s t : ℕ) (b : Bool) → b ≡ isSpecial f op s t → b ≡ false → Ordinary f t
 unfolding isSpecial

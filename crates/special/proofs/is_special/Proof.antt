@@ -1,6 +1,6 @@
 -- `special::is_special` meets its contract: each test is one of the definition. Assumes nothing.
 use borrow.Author.Needs.{needs}
-use Rattle.ieee.specs.Answer.{isSpecial}
+use Rattle.special.proofs.Parted.{special-is}
 use Rattle.special.proofs.is_special.Statement.{statement}
 use Rattle.special.proofs.is_special.Tie as tie
 
@@ -11,8 +11,7 @@ is-reciprocal-requires : tie.Need-is-reciprocal-requires
 is-reciprocal-requires c κs = search needs
 
 returns : tie.Need-returns
-unfolding isSpecial
-returns c = cc
+returns c = search special-is
 
 pub is-special-spec : {M : Type 1} → statement M
 is-special-spec = tie.close (tie.spec constants-requires is-reciprocal-requires returns)
