@@ -1,7 +1,9 @@
 -- What a call answers where it is accepted, and where it is refused. Assumes nothing.
 use mathlib.Core.Path.{_≡_, _∙_}
 use mathlib.Core.Bool.{Bool}
-use Prim.Native.Nat.{ℕ, _%_}
+use mathlib.Core.Logic.{by-cases}
+use Prim.Native.Nat.{ℕ, _%_, _≤_, _<_, zero-le}
+use native.Mathlib.Decide.{ℕ-discrete}
 use lib.Dec.{T}
 use lib.Bits.{bitOr}
 use borrow.Author.Tests.{ne-eqb}
@@ -11,9 +13,10 @@ use Rattle.kinds.specs.Operation.{isOperation}
 use Rattle.kinds.specs.Rounding.{isRounding}
 use Rattle.kinds.specs.Question.{ask}
 use Rattle.kinds.proofs.Questions.{yes, asked}
-use Rattle.ieee.specs.Format.{Format}
+use Rattle.ieee.specs.Format.{Format, infinity}
 use Rattle.ieee.specs.Answer.{answerOf}
 use Rattle.ieee.specs.Call.{bitsOf, statusOf, binary32Refusal}
+use Rattle.ieee.proofs.Finite.{answer-within}
 
 -- the two questions, each worked out by itself
 pub refusal-is : (operation rounding q r : ℕ) (known mode : Bool) → known ≡ isOperation operation → mode ≡ isRounding rounding
@@ -50,3 +53,8 @@ module _ (f : Format) (n : ℕ) (op : Op) (mode : Mode) (b : ℕ) where
   pub refused-status : (n ≡ 0 → ⊥) → (status : ℕ) → statusOf f n op mode b status ≡ status
   unfolding statusOf
   refused-status h status = rw (ne-eqb n 0 h)
+
+  -- to a positive number, to zero and to infinity, accepted or not, it gives the pattern of no NaN
+  pub bits-within : 0 < f .exponentBits → b ≤ infinity f → bitsOf f n op mode b ≤ infinity f
+  bits-within some h =
+      by-cases (ℕ-discrete n 0) (λ e. rw (accepted-bits e) (answer-within f op mode b some h)) (λ e. rw (refused-bits e) zero-le)
