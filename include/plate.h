@@ -59,7 +59,8 @@ extern "C" {
 uint64_t plate_raw(uint8_t operation, uint32_t significand, uint8_t parity);
 
 /* The binary32 unit. status holds the flags so far. Refusals: 1, 2; after one
-   the status is the one given. */
+   the status is the one given. A float from 2^-63 to below 2^64 comes back: its
+   product with itself, to the nearest, has it as its root to the nearest. */
 uint64_t plate_binary32(uint8_t operation, uint8_t rounding, uint8_t status,
                         uint32_t bits);
 

@@ -1,7 +1,7 @@
 /* The calls through include/plate.h: rows of document 01's table, its example
    written by both list calls and read back, the example as document 01 writes it,
-   a record that is lifted, rows of binary64 with their tables filled here, and
-   refusals of each call.
+   a record that is lifted, rows of binary64 with their tables filled here, widths
+   that are squared and come back, and refusals of each call.
 
      cc -std=c99 -Wall -Wextra -Werror -Iinclude tests/c/calls.c target/staticlib/libplate.a
 */
@@ -22,6 +22,17 @@ static int differs(int line, uint64_t given, uint32_t answer, uint8_t status, ui
 
 #define EXPECT(given, answer, status, refusal) \
     if (differs(__LINE__, (given), (answer), (status), (refusal))) return 1
+
+/* A width times itself, and the root of that. */
+static int width_lost(float width)
+{
+    float squared = width * width;
+    uint32_t before, bits;
+
+    memcpy(&before, &width, 4);
+    memcpy(&bits, &squared, 4);
+    return PLATE_ANSWER(plate_binary32(PLATE_ROOT, PLATE_NEAREST, 0, bits)) != before;
+}
 
 static int record_differs(int line, struct plate_record_reply given, struct plate_record_reply expected)
 {
@@ -235,6 +246,9 @@ int main(void)
     EXPECT(plate_binary32(PLATE_RECIPROCAL, PLATE_UP, 0, 0x00200000), 0x7F800000, PLATE_OVERFLOW | PLATE_INEXACT, 0);
     EXPECT(plate_binary32(PLATE_INVERSE_ROOT, PLATE_NEAREST, 0, 0x40800000), 0x3F000000, 0, 0);
     EXPECT(plate_binary32(PLATE_ROOT, 4, 255, 0x40000000), 0, 255, 2);
+
+    if (width_lost(0.1f) || width_lost(0x1p-63f) || width_lost(0x1.fffffep63f) || !width_lost(0x1p64f))
+        return 1;
 
     if (binary64_calls() != 0)
         return 1;
