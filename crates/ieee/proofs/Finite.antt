@@ -1,4 +1,5 @@
--- The answer to a pattern by its sign and the rest, and to a positive finite one, whose magnitude is rounded. Assumes nothing.
+-- The answer to a pattern by its sign and the rest, and to a positive finite one, whose magnitude is rounded; a positive one's is no NaN.
+-- Assumes nothing.
 use mathlib.Core.Path.{_≡_}
 use mathlib.Core.Bool.{Bool, false, true, cond}
 use mathlib.Core.Logic.{by-cases}

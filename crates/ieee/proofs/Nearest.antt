@@ -1,4 +1,5 @@
--- What rounding toward zero and to the nearest say of the exact result itself, over the format. Assumes nothing.
+-- What rounding toward zero and to the nearest say of the exact result itself, over the format; and which pattern is the nearest, by the
+-- midpoints beside it. Assumes nothing.
 use mathlib.Core.Path.{_≡_}
 use mathlib.Core.Bool.{Bool}
 use mathlib.Core.Logic.{_⊎_, inl, inr, by-cases}

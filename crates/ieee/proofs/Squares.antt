@@ -50,9 +50,11 @@ module _ (f : Format) (c m k C : ℕ) where
   abbrev pub squareOf : ℕ
   squareOf = m * 2 ^ c * (m * 2 ^ c)
 
+  -- the unit by which the square is rounded
   abbrev pub dropped : ℕ
   dropped = 2 ^ k * 2 ^ unitOf f
 
+  -- C of these units are the square to the nearest, and it has as many of them as a significand at least
   pub record Squared : Type 0 where
     pub unit : 2 ^ f .fractionBits * dropped ≤ squareOf
     pub low : 2 * squareOf ≤ 2 * (C * dropped) + dropped

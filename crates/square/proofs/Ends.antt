@@ -1,4 +1,4 @@
--- Both ends of the range are sharp: the greatest number below 2^-63 that does not come back, and 2^64, whose square overflows.
+-- Both ends of the range are sharp: a number just below 2^-63 that does not come back, and 2^64, whose square overflows.
 -- Assumes nothing.
 use mathlib.Core.Path.{_≡_, refl}
 use mathlib.Core.Bool.{false}
