@@ -1,2 +1,4 @@
 pub mod Answer
+pub mod Exact
+pub mod Normal
 pub mod Reply

@@ -1,24 +1,38 @@
 // The binary32 unit: reciprocal, root and inverse root of a pattern, correctly rounded, with flags.
-mod below;
+mod exact;
 
 ghost use mathlib.Core.Path.{_≡_};
 ghost use Prim.Native.Nat.{_^_, _<_};
 ghost use Rattle.ieee.specs.Format.{binary32};
-ghost use Rattle.ieee.specs.Answer.{answerOf};
+ghost use Rattle.kinds.specs.declared.Op.the-variants.{Root};
+ghost use Rattle.ieee.specs.Answer.{answerOf, toFinite};
 ghost use Rattle.ieee.specs.Call.{binary32Refusal};
 ghost use Rattle.pattern.specs.Answer.{Answered};
+ghost use Rattle.pattern.specs.Operand.{Ordinary};
+ghost use Rattle.pattern.specs.Parts.{FieldsOf};
 ghost use Rattle.binary32.specs.Answer.{roundedAnswer};
+ghost use Rattle.binary32.specs.Normal.{hasNormalResult, NormalScale};
 ghost use Rattle.binary32.specs.Reply.{replyTo};
-use below::below;
+use exact::exact_result;
 use kinds::Mode;
 use kinds::Op;
 use kinds::ask;
 use kinds::joined;
+use neighbour::lower;
 use pattern::Width;
+use pattern::operand::scale;
+use pattern::operand::scale_normal;
+use pattern::parts::Parts;
 use pattern::parts::fields;
+use rounding::normal::round_normal;
 use rounding::round;
 use special::is_special;
 use special::special;
+
+// The least normal pattern, and infinity's.
+const LEAST_NORMAL: u64 = 0x80_0000;
+
+const INFINITY: u64 = 0x7F80_0000;
 
 // A pattern and the flags that its operation raises.
 pub struct Rounded {
@@ -79,8 +93,71 @@ fn answer_in_64_bits(op: Op, mode: Mode, bits: u64) -> pattern::answer::Rounded
     ensures { λ r. ⌜ Answered binary32 (answerOf binary32 op mode bits) r ⌝ }
 {
     let x = fields(Width::Binary32, bits);
+    if has_normal_result(op, bits, x.exponent) {
+        return normal_by(op, mode, x);
+    }
     if is_special(Width::Binary32, op, x) {
         return special(Width::Binary32, op, x);
     }
-    round(Width::Binary32, mode, x.sign, below(op, x))
+    any(op, mode, x)
+}
+
+// Whether the result is a normal number, whatever the rounding.
+fn has_normal_result(op: Op, bits: u64, exponent: u64) -> bool
+    ensures { λ r. ⌜ r ≡ hasNormalResult op bits exponent ⌝ }
+{
+    match op {
+        Op::Reciprocal => (1 <= exponent) & (exponent <= 252),
+        Op::Root => is_positive_normal(bits),
+        Op::InverseRoot => is_positive_normal(bits),
+    }
+}
+
+fn is_positive_normal(bits: u64) -> bool
+    ensures { λ r. ⌜ r ≡ hasNormalResult Root bits 0 ⌝ }
+{
+    (LEAST_NORMAL <= bits) & (bits < INFINITY)
+}
+
+// The short way by its operation, so that each is compiled for itself.
+fn normal_by(op: Op, mode: Mode, x: Parts) -> pattern::answer::Rounded
+    requires { ⌜ Ordinary binary32 (x .unsigned) × FieldsOf binary32 x × (x .sign < 2) × (0 < x .exponent) × NormalScale op (x .exponent) ⌝ }
+    ensures { λ r. ⌜ Answered binary32 (toFinite binary32 op mode (x .sign) (x .unsigned)) r ⌝ }
+{
+    match op {
+        Op::Reciprocal => normal(Op::Reciprocal, mode, x),
+        Op::Root => normal(Op::Root, mode, x),
+        Op::InverseRoot => normal(Op::InverseRoot, mode, x),
+    }
+}
+
+// A normal result of a normal operand.
+fn normal(op: Op, mode: Mode, x: Parts) -> pattern::answer::Rounded
+    requires { ⌜ Ordinary binary32 (x .unsigned) × FieldsOf binary32 x × (x .sign < 2) × (0 < x .exponent) × NormalScale op (x .exponent) ⌝ }
+    ensures { λ r. ⌜ Answered binary32 (toFinite binary32 op mode (x .sign) (x .unsigned)) r ⌝ }
+{
+    let e = exact_result(op, scale_normal(Width::Binary32, x));
+    round_normal(
+        Width::Binary32,
+        mode,
+        x.sign,
+        e.floor.quotient,
+        e.floor.more,
+        e.scales.scale,
+    )
+}
+
+// Any result of an operand that is finite and not zero.
+fn any(op: Op, mode: Mode, x: Parts) -> pattern::answer::Rounded
+    requires { ⌜ Ordinary binary32 (x .unsigned) × FieldsOf binary32 x × (x .sign < 2) ⌝ }
+    ensures { λ r. ⌜ Answered binary32 (toFinite binary32 op mode (x .sign) (x .unsigned)) r ⌝ }
+{
+    let e = exact_result(op, scale(Width::Binary32, x));
+    let n = lower(
+        Width::Binary32,
+        e.floor.quotient,
+        e.floor.more,
+        e.scales.scale,
+    );
+    round(Width::Binary32, mode, x.sign, n)
 }

@@ -10,7 +10,7 @@ use Rattle.numbers.proofs.Exponents.{power-of}
 use Rattle.ieee.specs.Rounded.{side}
 use Rattle.ieee.specs.Floor.{targetOf}
 use Rattle.ieee.proofs.Neighbours.{side-rising}
-use Rattle.significand.specs.Distance.{Near, Under, Over, boundOf}
+use Rattle.significand.specs.Distance.{Under, Over}
 
 -- a raw answer counts the result in finer steps: so many to one of the floor's [8, 16 and 8; 64, 128 and 64]
 abbrev pub strideOf : ℕ → ℕ → Op → ℕ
@@ -58,16 +58,16 @@ module _ (k t y p : ℕ) (fine : t < k) (parity : p ≤ 1) where
   over-side Root v h = lt-of-mul-lt-mul-left (2 ^ m) (omega (arith, root-power))
   over-side InverseRoot v h = lt-of-mul-lt-mul-left (2 ^ p) (omega (arith, inverse-power))
 
-  -- a number at most the raw answer less its distance is below the exact floor's target, and one from the answer and its distance up above
-  module _ (op : Op) (g q : ℕ) (near : Near op k t y p (boundOf op) g) where
-    pub side-below : strideOf k t op * q ≤ g - boundOf op → side op y q < targetOf m op y p
-    side-below h =
+  -- a number whose steps are at most such a number is below the target, and one whose steps are at least such a number above it
+  module _ (op : Op) (v q : ℕ) where
+    pub side-under : Under op k m y p v → strideOf k t op * q ≤ v → side op y q < targetOf m op y p
+    side-under u h =
         lt-of-mul-lt-mul-left (spreadOf (strideOf k t op) op)
         (subst (λ (n : ℕ). n < spreadOf (strideOf k t op) op * targetOf m op y p) (spread op (strideOf k t op) y q)
-        (lt-of-le-of-lt (side-rising op y h) (under-side op (g - boundOf op) (near .under))))
+        (lt-of-le-of-lt (side-rising op y h) (under-side op v u)))
 
-    pub side-above : g + boundOf op ≤ strideOf k t op * q → targetOf m op y p < side op y q
-    side-above h =
+    pub side-over : Over op k m y p v → v ≤ strideOf k t op * q → targetOf m op y p < side op y q
+    side-over o h =
         lt-of-mul-lt-mul-left (spreadOf (strideOf k t op) op)
         (subst (λ (n : ℕ). spreadOf (strideOf k t op) op * targetOf m op y p < n) (spread op (strideOf k t op) y q)
-        (lt-of-lt-of-le (over-side op (g + boundOf op) (near .over)) (side-rising op y h)))
+        (lt-of-lt-of-le (over-side op v o) (side-rising op y h)))

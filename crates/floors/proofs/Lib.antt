@@ -1,3 +1,4 @@
 pub mod Between
-pub mod Reaching
+pub mod Modulo
+pub mod Counted
 pub mod Cases

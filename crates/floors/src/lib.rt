@@ -1,23 +1,36 @@
-// The floor of an exact result with one guard bit: from a raw answer, which starts at or below the floor, step by step up to it. A remainder decides each step.
+// The floor of an exact result with one guard bit, from a raw answer at k = 7. Its distances leave two or three numbers, and how many of
+// them have a side above the target is told by one remainder, and by the remainder and one step.
 ghost use mathlib.Core.Path.{_≡_};
+ghost use mathlib.Core.Bool.{not, _&&_};
 ghost use Prim.Native.Nat.{_^_, _≤_, _<_};
+ghost use lib.Dec.{eqb, ltb};
 ghost use Rattle.kinds.specs.declared.Op.the-variants.{Reciprocal, Root, InverseRoot};
 ghost use Rattle.significand.specs.Width.{k32, t32, Significand, Operand};
-ghost use Rattle.significand.specs.Distance.{Near, boundOf};
-ghost use Rattle.ieee.specs.Floor.{targetOf};
-ghost use Rattle.floors.specs.Floor.{Reached, Stepped, remainderOf};
+ghost use Rattle.significand.specs.Distance.{Between};
+ghost use Rattle.ieee.specs.Floor.{targetOf, Floored};
 use kinds::Op;
+use std::num::wrapping_add_u64;
+use wide::low_product;
 
-// A number at or below the floor, and what its product leaves of the target.
-pub struct Partial {
+// A floor, and whether something lies above it.
+pub struct Floor {
     pub quotient: u64,
-    pub left: u64,
+    pub more: bool,
 }
 
+// The significand of a power of two.
+const LEAST_SIGNIFICAND: u64 = 0x80_0000;
+
+// 2^48, the reciprocal's target.
+const WHOLE: u64 = 0x1_0000_0000_0000;
+
+// What is above the target, modulo 2^64, is below the half of that.
+const HALF: u64 = 0x8000_0000_0000_0000;
+
 // The floor of each operation's target.
-pub fn floor_of(op: Op, y: u64, p: u64, g: u64) -> Partial
-    requires { ⌜ Operand k32 t32 op y p × (g < 2 ^ 32) × Near op k32 t32 y p (boundOf op) g ⌝ }
-    ensures { λ r. ⌜ Reached op y (targetOf 23 op y p) r 0 ⌝ }
+pub fn floor_of(op: Op, y: u64, p: u64, g: u64) -> Floor
+    requires { ⌜ Operand k32 t32 op y p × (g < 2 ^ 32) × Between op k32 t32 y p g ⌝ }
+    ensures { λ r. ⌜ Floored op y (targetOf 23 op y p) (r .quotient) (r .more) ⌝ }
 {
     match op {
         Op::Reciprocal => reciprocal(y, g),
@@ -26,68 +39,55 @@ pub fn floor_of(op: Op, y: u64, p: u64, g: u64) -> Partial
     }
 }
 
-// One step up where the remainder has room for it.
-fn step(x: Partial, amount: u64) -> Partial
-    requires { ⌜ x .quotient < 2 ^ 32 ⌝ }
-    ensures { λ r. ⌜ Stepped x amount r ⌝ }
+// 2^48 / y: the number tried, the one before or the next.
+fn reciprocal(y: u64, g: u64) -> Floor
+    requires { ⌜ Significand k32 t32 y × (g < 2 ^ 32) × Between Reciprocal k32 t32 y 0 g ⌝ }
+    ensures { λ r. ⌜ Floored Reciprocal y (targetOf 23 Reciprocal y 0) (r .quotient) (r .more) ⌝ }
 {
-    if amount <= x.left {
-        return Partial {
-            quotient: x.quotient + 1,
-            left: x.left - amount,
-        };
+    let q = (g + 3) / 8;
+    let side = y * q;
+    let above = (WHOLE < side) as u64;
+    let next_above = (WHOLE < side + y) as u64;
+    Floor {
+        quotient: q + 1 - above - next_above,
+        more: y != LEAST_SIGNIFICAND,
     }
-    x
 }
 
-// 2^48 / y: three steps are enough.
-fn reciprocal(y: u64, g: u64) -> Partial
-    requires { ⌜ Significand k32 t32 y × (g < 2 ^ 32) × Near Reciprocal k32 t32 y 0 (boundOf Reciprocal) g ⌝ }
-    ensures { λ r. ⌜ Reached Reciprocal y (targetOf 23 Reciprocal y 0) r 0 ⌝ }
+// The root of y × 2^(25 + p): the number tried or the one before.
+fn root(y: u64, p: u64, g: u64) -> Floor
+    requires { ⌜ Significand k32 t32 y × (p ≤ 1) × (g < 2 ^ 32) × Between Root k32 t32 y p g ⌝ }
+    ensures { λ r. ⌜ Floored Root y (targetOf 23 Root y p) (r .quotient) (r .more) ⌝ }
 {
-    let q = (g - 12) / 8;
-    let first = Partial {
-        quotient: q,
-        left: 0x1_0000_0000_0000 - y * q,
-    };
-    step(step(step(first, y), y), y)
+    let q = (g + 7) / 16;
+    let target = y << (25 + p);
+    let side = q * q;
+    let above = (target < side) as u64;
+    Floor {
+        quotient: q - above,
+        more: side != target,
+    }
 }
 
-// The root of y × 2^(25 + p): one step is enough.
-fn root(y: u64, p: u64, g: u64) -> Partial
-    requires { ⌜ Significand k32 t32 y × (p ≤ 1) × (g < 2 ^ 32) × Near Root k32 t32 y p (boundOf Root) g ⌝ }
-    ensures { λ r. ⌜ Reached Root y (targetOf 23 Root y p) r 0 ⌝ }
+// The root of 2^(73 − p) / y: the number tried, the one before or the next. The target is 0 modulo 2^64, and no side is half of that away.
+fn inverse_root(y: u64, p: u64, g: u64) -> Floor
+    requires { ⌜ Significand k32 t32 y × (p ≤ 1) × (g < 2 ^ 32) × Between InverseRoot k32 t32 y p g ⌝ }
+    ensures { λ r. ⌜ Floored InverseRoot y (targetOf 23 InverseRoot y p) (r .quotient) (r .more) ⌝ }
 {
-    let q = (g - 7) / 16;
-    let first = Partial {
-        quotient: q,
-        left: (y << (25 + p)) - q * q,
-    };
-    step(first, 2 * q + 1)
+    let q = (g + 1) / 8;
+    let side = low_product(q * q, y);
+    let next = wrapping_add_u64(side, (2 * q + 1) * y);
+    let above = is_above(side) as u64;
+    let next_above = is_above(next) as u64;
+    Floor {
+        quotient: q + 1 - above - next_above,
+        more: (y != LEAST_SIGNIFICAND) | (p == 1),
+    }
 }
 
-// The root of 2^(73 - p) / y: two steps are enough.
-fn inverse_root(y: u64, p: u64, g: u64) -> Partial
-    requires { ⌜ Significand k32 t32 y × (p ≤ 1) × (g < 2 ^ 32) × Near InverseRoot k32 t32 y p (boundOf InverseRoot) g ⌝ }
-    ensures { λ r. ⌜ Reached InverseRoot y (targetOf 23 InverseRoot y p) r 0 ⌝ }
+// Whether a difference modulo 2^64, read as a signed number, is positive.
+fn is_above(difference: u64) -> bool
+    ensures { λ r. ⌜ r ≡ not (eqb difference 0) && ltb difference 9223372036854775808 ⌝ }
 {
-    let q = (g - 7) / 8;
-    let first = Partial {
-        quotient: q,
-        left: remainder(q, y),
-    };
-    let second = step(first, (2 * q + 1) * y);
-    let next = second.quotient;
-    step(second, (2 * next + 1) * y)
-}
-
-// What q² × y leaves of 2^(73 - p). It has 73 bits, and the remainder fewer than 56, so the lower 56 bits tell it.
-fn remainder(q: u64, y: u64) -> u64
-    requires { ⌜ (q < 2 ^ 26) × (y < 2 ^ 24) ⌝ }
-    ensures { λ r. ⌜ r ≡ remainderOf q y ⌝ }
-{
-    let square = q * q;
-    let high = (square >> 26) * y % 0x4000_0000;
-    let low = square % 0x400_0000 * y;
-    (0x200_0000_0000_0000 - (high * 0x400_0000 + low) % 0x100_0000_0000_0000) % 0x100_0000_0000_0000
+    (difference != 0) & (difference < HALF)
 }

@@ -17,37 +17,13 @@ use Rattle.significand.specs.Distance.{Near, boundOf}
 use Rattle.ieee.specs.Rounded.{side}
 use Rattle.ieee.specs.Floor.{targetOf, Floored}
 use Rattle.ieee.proofs.Targets.{quotient-small, quotient-large}
-use Rattle.floors.proofs.Between.{strideOf, side-below, side-above}
-use Rattle.floors.proofs.Reaching.{amountOf, amount-is}
-use Rattle.floors64.specs.declared.Floor.{Floor}
+use Rattle.floors.proofs.Between.{strideOf, side-under, side-over}
+use Rattle.floors.proofs.Counted.{amountOf, amount-is}
+use Rattle.floors.proofs.Modulo.{upper, lower}
+use Rattle.floors.specs.declared.Floor.{Floor}
 use Rattle.floors64.specs.Settled.{settledOf}
 
--- two numbers that are less than H apart, and what the first is above the second modulo 2 H: below H it is their difference, and else it
--- lacks 2 H
-module _ (B H s x v i j : ℕ) (half : B ≡ H + H) (below : v < B) (is : v + x + B * i ≡ s + B * j) (low : s < x + H) (high : x < s + H) where
-  step : {a b : ℕ} → a < b → B * a + B ≤ B * b
-  step l = omega (arith, mul-le-mul-left B l)
-
-  not-more : j < i → ⊥
-  not-more l = omega (arith, step l)
-
-  pub upper : v < H → v + x ≡ s
-  upper h =
-      by-cases (ℕ-discrete i j) (λ e. omega (arith, ap (λ (n : ℕ). B * n) e))
-      (λ d. by-cases (decLt i j) (λ l. absurd (omega (arith, step l))) (λ l. absurd (not-more (omega (arith, d)))))
-
-  pub lower : H ≤ v → v + x ≡ s + B
-  lower h =
-      by-cases (ℕ-discrete i j) (λ e. absurd (omega (arith, ap (λ (n : ℕ). B * n) e)))
-      (λ d.
-      by-cases (decLt i j)
-      (λ l. by-cases (decLt (suc i) j) (λ n. absurd (omega (arith, step l, step n, step {a = i} {b = suc i} (omega arith)))) (λ n. next (omega arith)))
-      (λ l. absurd (not-more (omega (arith, d)))))
-    where
-      next : j ≡ suc i → v + x ≡ s + B
-      next e = omega (arith, ap (λ (n : ℕ). B * n) e)
-
--- so the remainder v of the number tried tells the floor
+-- the remainder v of the number tried tells the floor
 module _ (op : Op) (y x q : ℕ) (some : 0 < q) (below : side op y (q - 1) < x) (above : x < side op y (suc q)) (B H v i j : ℕ) (half : B ≡ H + H)
     (small : v < B) (is : v + x + B * i ≡ side op y q + B * j) (low : side op y q < x + H) (high : x < side op y q + H) where
   back : suc (q - 1) ≡ q
@@ -101,10 +77,10 @@ module _ (op : Op) (y p g : ℕ) (Y : Significand k64 t64 y) (parity : p ≤ 1) 
 
   -- the number before it is below the exact result, and the next above
   pub tried-low : side op y (q - 1) < x
-  tried-low = side-below k64 t64 y p (omega arith) parity op g (q - 1) near (before-low op g (near .enough))
+  tried-low = side-under k64 t64 y p (omega arith) parity op (g - boundOf op) (q - 1) (near .under) (before-low op g (near .enough))
 
   pub tried-high : x < side op y (suc q)
-  tried-high = side-above k64 t64 y p (omega arith) parity op g (suc q) near (after-high op g)
+  tried-high = side-over k64 t64 y p (omega arith) parity op (g + boundOf op) (suc q) (near .over) (after-high op g)
 
   -- it has 54 bits, or is 2^54 or one more
   pub tried-large : 2 ^ 53 ≤ q

@@ -15,10 +15,10 @@ use Rattle.numbers.proofs.Exponents.{power-of}
 use Rattle.significand.specs.Width.{k64, t64, Significand}
 use Rattle.significand.specs.Distance.{Near, boundOf}
 use Rattle.ieee.specs.Floor.{targetOf, Floored}
-use Rattle.floors.proofs.Reaching.{amountOf}
+use Rattle.floors.proofs.Counted.{amountOf}
 use Rattle.wide.specs.declared.Wide.{Wide}
 use Rattle.wide.specs.Wide.{lowerOf}
-use Rattle.floors64.specs.declared.Floor.{Floor}
+use Rattle.floors.specs.declared.Floor.{Floor}
 use Rattle.floors64.specs.Settled.{settledOf}
 use Rattle.floors64.proofs.Tried.{triedOf, floor-told}
 

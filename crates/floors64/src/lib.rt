@@ -7,16 +7,11 @@ ghost use Rattle.significand.specs.Width.{k64, t64, Significand, Operand};
 ghost use Rattle.significand.specs.Distance.{Near, boundOf};
 ghost use Rattle.ieee.specs.Floor.{targetOf, Floored};
 ghost use Rattle.floors64.specs.Settled.{settledOf};
+use floors::Floor;
 use kinds::Op;
 use std::num::wrapping_sub_u64;
 use wide::low_product;
 use wide::low_square_product;
-
-// A floor, and whether something lies above it.
-pub struct Floor {
-    pub quotient: u64,
-    pub more: bool,
-}
 
 // The floor of each operation's target.
 pub fn floor_of(op: Op, y: u64, p: u64, g: u64) -> Floor

@@ -41,7 +41,7 @@ half-left a b c e z =
     omega (arith, ap (λ (x : ℕ). x * b) twice)
 
 -- a and b are not both odd then
-odd-both : (a b c : ℕ) → a * b ≡ 2 * c → a % 2 ≡ 1 → b % 2 ≡ 1 → ⊥
+pub odd-both : (a b c : ℕ) → a * b ≡ 2 * c → a % 2 ≡ 1 → b % 2 ≡ 1 → ⊥
 odd-both a b c e y z =
     let p : a ≡ 1 + 2 * (a / 2) = omega arith in
     let q : b ≡ 1 + 2 * (b / 2) = omega arith in

@@ -119,7 +119,7 @@ module _ (w : Width) (x : Parts) (c : Constants) (k : ConstantsOf (formatOf w) c
           small = omega (arith, below m t j low high small, exponents w);
         })
 
-  pub normal-scaled : (x .exponent ≡ 0 → ⊥)
+  pub normal-scaled : 0 < x .exponent
       → Scaling w (magnitudeOf (formatOf w) (x .unsigned)) (record { significand = c .normal + x .fraction; exponent = x .exponent + c .fraction - 1 })
   unfolding magnitudeOf
   normal-scaled normal =
@@ -132,3 +132,6 @@ module _ (w : Width) (x : Parts) (c : Constants) (k : ConstantsOf (formatOf w) c
         significand = significand-is w (2 ^ m + t % 2 ^ m) (omega arith) (omega arith);
         small = omega (arith, div-lt-iff-lt-mul (pow-pos m) .1 (o .finite));
       })
+
+  pub normal-exponent : x .exponent + c .fraction - 1 ≡ x .exponent + formatOf w .fractionBits - 1
+  normal-exponent = rw (k .fraction-is)

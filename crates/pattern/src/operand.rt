@@ -1,4 +1,6 @@
 // A finite operand as a significand and a power of two.
+ghost use mathlib.Core.Path.{_≡_};
+ghost use Prim.Native.Nat.{_+_, _-_, _<_};
 ghost use Rattle.ieee.specs.Format.{magnitudeOf};
 ghost use Rattle.pattern.specs.Width.{formatOf};
 ghost use Rattle.pattern.specs.Parts.{FieldsOf};
@@ -27,6 +29,16 @@ pub fn scale(w: Width, x: Parts) -> Scaled
             exponent,
         };
     }
+    scale_normal(w, x)
+}
+
+// The same, of a normal operand.
+pub fn scale_normal(w: Width, x: Parts) -> Scaled
+    requires { ⌜ Ordinary (formatOf w) (x .unsigned) × FieldsOf (formatOf w) x ⌝ }
+    requires { ⌜ 0 < x .exponent ⌝ }
+    ensures { λ r. ⌜ Scaling w (magnitudeOf (formatOf w) (x .unsigned)) r × (r .exponent ≡ x .exponent + formatOf w .fractionBits - 1) ⌝ }
+{
+    let f = w.constants();
     Scaled {
         significand: f.normal + x.fraction,
         exponent: x.exponent + f.fraction - 1,

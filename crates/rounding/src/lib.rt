@@ -1,4 +1,6 @@
-// From the pattern below the exact result to the rounded pattern and its flags.
+// From the pattern below the exact result to the rounded pattern and its flags, and the short way of a normal result.
+pub mod normal;
+
 ghost use mathlib.Core.Path.{_≡_};
 ghost use mathlib.Core.Bool.{cond};
 ghost use Prim.Native.Nat.{_≤_, _<_};

@@ -19,9 +19,9 @@ use Rattle.significand.specs.Width.{k32, t32, k64, t64, Significand, Ope
 use Rattle.significand.specs.Steps.{indexOf, factorOf, multiplierOf, rawOf}
 use Rattle.significand.specs.Tables.{tables, entryPlace}
 use Rattle.significand.specs.Call.{isSignificand, isParity, rawRefusal, rawAnswer, isLent, isEntry, raw64Door, raw64Refusal, raw64Answer}
-use Rattle.significand.specs.Distance.{Near, boundOf}
+use Rattle.significand.specs.Distance.{Near, boundOf, Between}
 use Rattle.significand.proofs.Reduction.{index-least, index-below}
-use Rattle.significand.proofs.Distance.{distance}
+use Rattle.significand.proofs.Distance.{distance, between}
 use Rattle.significand.proofs.Tables.{tables-length, entry-placed}
 
 -- a raw answer is near
@@ -30,6 +30,9 @@ raw-near k t h op y p g Y parity e = rw e (distance op k t y p h parity Y)
 
 pub operand-near : (k t : ℕ) → 7 ≤ k → (op : Op) (y p g : ℕ) → Operand k t op y p → g ≡ rawOf k t op y p → Near op k t y p (boundOf op) g
 operand-near k t h op y p g o e = raw-near k t h op y p g (o .significand) (o .parity) e
+
+pub operand-between : (k t : ℕ) → 7 ≤ k → (op : Op) (y p g : ℕ) → Operand k t op y p → g ≡ rawOf k t op y p → Between op k t y p g
+operand-between k t h op y p g o e = rw e (between op k t y p h (o .parity) (o .significand))
 
 -- the questions, each worked out by itself
 pub refusal-is : (operation y p q r s : ℕ) (op : Op) (known reciprocal : Bool)

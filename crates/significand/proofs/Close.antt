@@ -11,9 +11,9 @@ use Rattle.significand.proofs.Series.{Point, Summed, series-most, serie
 use Rattle.significand.proofs.Reciprocal.{recip-high, recip-low}
 use Rattle.significand.proofs.Roots.{root-high, root-low, inverse-high, inverse-low}
 
--- b is not too high: N² T / U + 6, √(N U / T) + 2, √(N³ T / U) + 2
+-- b is not too high: N² T / U + 4.5, √(N U / T) + 2, √(N³ T / U) + 2
 abbrev pub High : Op → ℕ → ℕ → ℕ → ℕ → Type 0
-High Reciprocal N T U b = b * U ≤ N * N * T + 6 * U
+High Reciprocal N T U b = 2 * b * U ≤ 2 * N * N * T + 9 * U
 High Root N T U b = T * ((b - 2) * (b - 2)) ≤ N * U
 High InverseRoot N T U b = U * ((b - 2) * (b - 2)) ≤ N * N * N * T
 
@@ -53,11 +53,11 @@ b′ = v 4
 
 -- what holds at W and at W + 1 holds at U / T
 module _ (T U W N b : ℕ) (from : T * W ≤ U) (upto : U ≤ T * (W + 1)) where
-  recip-up : (W + 1) * b ≤ N * N + 6 * W → b * U ≤ N * N * T + 6 * U
+  recip-up : 2 * (W + 1) * b ≤ 2 * N * N + 9 * W → 2 * b * U ≤ 2 * N * N * T + 9 * U
   recip-up h =
       nlin (T ∷ U ∷ W ∷ N ∷ b ∷ [])
-      (b′ ⊙ U′ ⊑ T′ ⊗ (W′ ⊕ # 1) ∷ T′ ⊙ (W′ ⊕ # 1) ⊗ b′ ⊑ N′ ⊗ N′ ⊕ # 6 ⊗ W′ ∷ # 6 ⊙ T′ ⊗ W′ ⊑ U′ ∷ []) (b′ ⊗ U′)
-      (N′ ⊗ N′ ⊗ T′ ⊕ # 6 ⊗ U′) tt (omega arith)
+      (# 2 ⊗ b′ ⊙ U′ ⊑ T′ ⊗ (W′ ⊕ # 1) ∷ T′ ⊙ # 2 ⊗ (W′ ⊕ # 1) ⊗ b′ ⊑ # 2 ⊗ N′ ⊗ N′ ⊕ # 9 ⊗ W′ ∷ # 9 ⊙ T′ ⊗ W′ ⊑ U′ ∷ []) (# 2 ⊗ b′ ⊗ U′)
+      (# 2 ⊗ N′ ⊗ N′ ⊗ T′ ⊕ # 9 ⊗ U′) tt (omega arith)
 
   recip-down : N * N ≤ W * b + 11 * W → N * N * T ≤ b * U + 11 * U
   recip-down h =

@@ -9,7 +9,7 @@ use Rattle.kinds.specs.declared.Op.{Op}
 use Rattle.kinds.specs.declared.Op.the-variants.{Reciprocal, Root, InverseRoot}
 use Rattle.significand.specs.Width.{Significand}
 use Rattle.significand.specs.Steps.{indexOf, factorOf, signOf, reducedOf, seriesOf, multiplierOf, rawOf}
-use Rattle.significand.specs.Distance.{Near, boundOf}
+use Rattle.significand.specs.Distance.{Near, boundOf, Between}
 use Rattle.significand.proofs.Close.{Close, series-close}
 use Rattle.significand.proofs.Scale.{whole-is}
 use Rattle.significand.proofs.General.{general}
@@ -38,12 +38,16 @@ module _ (op : Op) (k t y p : ℕ) (h : 7 ≤ k) (e : p ≤ 1) (Y : Significand 
       (series-close op s (pointOf k op s a) (2 ^ t) (y * r) (reduced k t y h Y .from) (reduced k t y h Y .upto)
       (summed k a h (reduced-small k t y h Y) op s))
 
-  -- THE THEOREM: g is less than 12, 7 and 7 away
-  pub distance : Near op k t y p (boundOf op) (rawOf k t op y p)
+  -- g is less than its distance away, and a reciprocal less than 5 above
+  pub between : Between op k t y p (rawOf k t op y p)
   unfolding rawOf
-  distance =
+  between =
       general k t y r p (multiplierOf k op r p) b h e Y (least k t y h Y) (most k t y h Y) op
       (multiplies k r p (omega arith) e (least k t y h Y) (most k t y h Y) op) close
+
+  -- THE THEOREM: g is less than 12, 7 and 7 away
+  pub distance : Near op k t y p (boundOf op) (rawOf k t op y p)
+  distance = between .near
 
 -- The three by themselves, written out. Here m = 3k + t − 1.
 module _ (k t y : ℕ) (h : 7 ≤ k) (Y : Significand k t y) where

@@ -11,7 +11,7 @@ use Rattle.kinds.specs.declared.Op.the-variants.{Reciprocal, Root, InverseRoot}
 use Rattle.numbers.specs.Nearest.{WithinOne}
 use Rattle.numbers.proofs.Exponents.{power-of}
 use Rattle.significand.specs.Width.{Significand}
-use Rattle.significand.specs.Distance.{Under, Over, Near, boundOf}
+use Rattle.significand.specs.Distance.{Under, Over, Near, boundOf, aboveOf, Between}
 use Rattle.significand.proofs.Close.{Close}
 use Rattle.significand.proofs.Units.{Setting, Floored, root-multiplier, inverse-multiplier, recip-multiplier, root-under, root-over, inverse-under, inverse-over, recip-under, recip-over}
 use Rattle.significand.proofs.Scale.{setting, whole-is, whole-least, parity-most, quotient-scale, square-scale, root-power, inverse-power, whole-square, over-least}
@@ -85,6 +85,13 @@ module _ (k t y r p M b : ℕ) (h : 7 ≤ k) (e : p ≤ 1) (Y : Significand k t 
   under InverseRoot near C =
       rw square-scale (omega (arith, inverse-under K F (inverse-low k r p M h near) (inverse-high k r p M h near) C))
 
+  -- and so is g less 5, for the reciprocal
+  above : (op : Op) → Multiplies op k r p M → Close op (2 ^ (4 * k)) (2 ^ t) (y * r) b → Under op k m y p (g - aboveOf op)
+  above Reciprocal is C =
+      omega (arith, recip-under K F (recip-twice k r p M h is) C, quotient-scale k m, mul-sub y g 5, K .significand, pow-pos (4 * k + m))
+  above Root near C = under Root near C
+  above InverseRoot near C = under InverseRoot near C
+
   over : (op : Op) → Multiplies op k r p M → Close op (2 ^ (4 * k)) (2 ^ t) (y * r) b → Over op k m y p (g + boundOf op)
   over Reciprocal is C = rw quotient-scale (recip-over K F (recip-twice k r p M h is) C)
   over Root near C =
@@ -97,11 +104,14 @@ module _ (k t y r p M b : ℕ) (h : 7 ≤ k) (e : p ≤ 1) (Y : Significand k t 
   bound-small Root = omega arith
   bound-small InverseRoot = omega arith
 
-  -- the law: g is less than its distance away, for any such M and b
-  pub general : (op : Op) → Multiplies op k r p M → Close op (2 ^ (4 * k)) (2 ^ t) (y * r) b → Near op k t y p (boundOf op) g
+  -- the law: g is less than its distance away, and less far above, for any such M and b
+  pub general : (op : Op) → Multiplies op k r p M → Close op (2 ^ (4 * k)) (2 ^ t) (y * r) b → Between op k t y p g
   general op near C =
       record {
-        enough = omega (arith, over-least k t y p (g + boundOf op) h e Y op (over op near C), whole-least k h, bound-small op);
-        under = under op near C;
-        over = over op near C;
+        near = record {
+          enough = omega (arith, over-least k t y p (g + boundOf op) h e Y op (over op near C), whole-least k h, bound-small op);
+          under = under op near C;
+          over = over op near C;
+        };
+        above = above op near C;
       }

@@ -154,17 +154,17 @@ module _ {Z N T P X y R M b g : ℕ} (K : Setting Z N T P X y R) (F : Floored N 
     recip-top = recip-multiplier Z N X R M (K .factor-most) (K .whole) exactly
 
     module _ (C : Close Reciprocal N T (y * R) b) where
-      pub recip-under : g * y ≤ N * P + 6 * y
+      pub recip-under : 2 * g * y ≤ 2 * N * P + 9 * y
       recip-under =
           nlin× (Z ∷ N ∷ T ∷ P ∷ y ∷ R ∷ M ∷ b ∷ g ∷ []) (# 2 ⊗ N′)
-          (# 2 ⊗ y′ ⊙ g′ ⊗ N′ ⊑ M′ ⊗ b′
-          ∷ b′ ⊗ y′ ⊙ # 2 ⊗ M′ ⊑ R′ ⊗ Z³
-          ∷ Z³ ⊙ b′ ⊗ (y′ ⊗ R′) ⊑ N′ ⊗ N′ ⊗ T′ ⊕ # 6 ⊗ (y′ ⊗ R′)
-          ∷ N′ ⊗ N′ ⊙ T′ ⊗ Z′ ⊗ Z′ ⊗ Z′ ⊑ # 2 ⊗ P′
-          ∷ # 6 ⊗ y′ ⊙ R′ ⊗ Z³ ⊑ # 2 ⊗ M′
-          ∷ # 12 ⊗ y′ ⊙ M′ ⊑ N′
+          (# 4 ⊗ y′ ⊙ g′ ⊗ N′ ⊑ M′ ⊗ b′
+          ∷ # 2 ⊗ b′ ⊗ y′ ⊙ # 2 ⊗ M′ ⊑ R′ ⊗ Z³
+          ∷ Z³ ⊙ # 2 ⊗ b′ ⊗ (y′ ⊗ R′) ⊑ # 2 ⊗ N′ ⊗ N′ ⊗ T′ ⊕ # 9 ⊗ (y′ ⊗ R′)
+          ∷ # 2 ⊗ N′ ⊗ N′ ⊙ T′ ⊗ Z′ ⊗ Z′ ⊗ Z′ ⊑ # 2 ⊗ P′
+          ∷ # 9 ⊗ y′ ⊙ R′ ⊗ Z³ ⊑ # 2 ⊗ M′
+          ∷ # 18 ⊗ y′ ⊙ M′ ⊑ N′
           ∷ [])
-          (g′ ⊗ y′) (N′ ⊗ P′ ⊕ # 6 ⊗ y′) tt (omega arith) (omega (arith, recip-top))
+          (# 2 ⊗ g′ ⊗ y′) (# 2 ⊗ N′ ⊗ P′ ⊕ # 9 ⊗ y′) tt (omega arith) (omega (arith, recip-top))
 
       pub recip-over : N * P < (g + 12) * y
       recip-over =

@@ -27,3 +27,14 @@ abbrev pub boundOf : Op → ℕ
 boundOf Reciprocal = 12
 boundOf Root = 7
 boundOf InverseRoot = 7
+
+-- of which an answer lies so far above the exact value at most: under 5, 7 and 7
+abbrev pub aboveOf : Op → ℕ
+aboveOf Reciprocal = 5
+aboveOf Root = 7
+aboveOf InverseRoot = 7
+
+-- g is less than its distance away, and less than `aboveOf` above
+pub record Between (op : Op) (k t y p g : ℕ) : Type 0 where
+  pub near : Near op k t y p (boundOf op) g
+  pub above : Under op k (3 * k + t - 1) y p (g - aboveOf op)

@@ -1,6 +1,6 @@
 -- `floors::floor_of` meets its contract: each operation has its own function. Assumes nothing.
+use Rattle.floors.proofs.Cases.{between-case, between-reciprocal, floored-case}
 use borrow.Author.Needs.{needs}
-use Rattle.floors.proofs.Cases.{near-case, near-reciprocal, reached-case}
 use Rattle.floors.proofs.floor_of.Statement.{statement}
 use Rattle.floors.proofs.floor_of.Tie as tie
 
@@ -8,28 +8,28 @@ enum-told : tie.Need-enum-told
 enum-told c = search needs
 
 reciprocal-requires : tie.Need-reciprocal-requires
-reciprocal-requires c κs = (search needs, search needs, search near-reciprocal)
+reciprocal-requires c κs = (search needs, search needs, search between-reciprocal)
 
 enum-told-2 : tie.Need-enum-told-2
 enum-told-2 c = search needs
 
 root-requires : tie.Need-root-requires
-root-requires c κs = (search needs, search needs, search needs, search near-case)
+root-requires c κs = (search needs, search needs, search needs, search between-case)
 
 enum-told-3 : tie.Need-enum-told-3
 enum-told-3 c = search needs
 
 inverse-root-requires : tie.Need-inverse-root-requires
-inverse-root-requires c κs = (search needs, search needs, search needs, search near-case)
+inverse-root-requires c κs = (search needs, search needs, search needs, search between-case)
 
 returns : tie.Need-returns
-returns c = search reached-case
+returns c = search floored-case
 
 returns-2 : tie.Need-returns-2
-returns-2 c = search reached-case
+returns-2 c = search floored-case
 
 returns-3 : tie.Need-returns-3
-returns-3 c = search reached-case
+returns-3 c = search floored-case
 
 pub floor-of-spec : {M : Type 1} → statement M
 floor-of-spec =

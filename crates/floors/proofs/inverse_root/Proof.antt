@@ -1,56 +1,71 @@
--- `floors::inverse_root` meets its contract: the start is at or below the floor, and two steps lead to it. Assumes nothing.
-use native.Mathlib.Omega.{arith}
-use borrow.Author.Needs.{needs}
+-- `floors::inverse_root` meets its contract: the floor is the number tried, the one before or the next. Assumes nothing.
 use Rattle.kinds.specs.declared.Op.the-variants.{InverseRoot}
-use Rattle.floors.proofs.Reaching.{fits-product, start-small, inverse-root-reached}
+use Rattle.floors.proofs.Counted.{triedOf, tried-some, count-first, count-two, inverse-square, inverse-amount, inverse-floor}
+use borrow.Author.Needs.{needs}
 use Rattle.floors.proofs.inverse_root.Statement.{statement}
 use Rattle.floors.proofs.inverse_root.Tie as tie
 
-sub-q : tie.Need-sub-q
-sub-q c = search needs
+add-q : tie.Need-add-q
+add-q c = search needs
 
-remainder-requires : tie.Need-remainder-requires
-remainder-requires c κs = let a = c .args in let p = c .pre in omega (arith, start-small InverseRoot (a .y) (a .p) (a .g) (p .0) (p .1) (p .3))
+mul-low-product : tie.Need-mul-low-product
+mul-low-product c = record { fits = inverse-square (c .args .y) (c .args .g) (c .pre .0) (c .args .p) (c .pre .1) (c .pre .3) }
 
-mul-step : tie.Need-mul-step
-mul-step c = search needs
+low-product-requires : tie.Need-low-product-requires
+low-product-requires c κs = search needs
 
-add-step : tie.Need-add-step
-add-step c = search needs
+mul-wrapping-add-u64 : tie.Need-mul-wrapping-add-u64
+mul-wrapping-add-u64 c = search needs
 
-mul-step-2 : tie.Need-mul-step-2
-mul-step-2 c = let a = c .before .args in let p = c .before .pre in fits-product 27 24 (omega (arith, start-small InverseRoot (a .y) (a .p) (a .g) (p .0) (p .1) (p .3))) (search needs) (search needs)
+add-wrapping-add-u64 : tie.Need-add-wrapping-add-u64
+add-wrapping-add-u64 c = search needs
 
-step-requires : tie.Need-step-requires
-step-requires c κs = search needs
+mul-wrapping-add-u64-2 : tie.Need-mul-wrapping-add-u64-2
+mul-wrapping-add-u64-2 c = let a = c .before in record { fits = inverse-amount (a .args .y) (a .args .g) (a .pre .0) (a .args .p) (a .pre .1) (a .pre .3) }
 
-mul-step-3 : tie.Need-mul-step-3
-mul-step-3 c = search needs
+wrapping-add-u64-requires : tie.Need-wrapping-add-u64-requires
+wrapping-add-u64-requires c κs = search needs
 
-add-step-2 : tie.Need-add-step-2
-add-step-2 c = search needs
+is-above-requires : tie.Need-is-above-requires
+is-above-requires c κs = search needs
 
-mul-step-4 : tie.Need-mul-step-4
-mul-step-4 c = let a = c .before .before .args in let p = c .before .before .pre in fits-product 27 24 (omega (arith, start-small InverseRoot (a .y) (a .p) (a .g) (p .0) (p .1) (p .3))) (search needs) (search needs)
+cast-above : tie.Need-cast-above
+cast-above c = search needs
 
-step-requires-2 : tie.Need-step-requires-2
-step-requires-2 c κs = search needs
+is-above-requires-2 : tie.Need-is-above-requires-2
+is-above-requires-2 c κs = search needs
+
+cast-next-above : tie.Need-cast-next-above
+cast-next-above c = search needs
+
+add-t9 : tie.Need-add-t9
+add-t9 c = search needs
+
+sub-t10 : tie.Need-sub-t10
+sub-t10 c = let a = c .before .before .before .before in count-first (triedOf InverseRoot (a .args .g)) (c .before .is-above .result)
+
+sub-t11 : tie.Need-sub-t11
+sub-t11 c = let a = c .before .before .before .before in count-two (triedOf InverseRoot (a .args .g)) (c .before .is-above .result) (c .is-above2 .result) (tried-some InverseRoot (a .args .y) (a .args .p) (a .args .g) (a .pre .0) (a .pre .1) (a .pre .3))
 
 returns : tie.Need-returns
-returns c = search inverse-root-reached
+returns c = let a = c .before .before .before .before in inverse-floor (a .args .y) (a .args .g) (a .pre .0) (a .args .p) (a .pre .1) (a .pre .3) _ _ _ _ (c .before .before .before .low-product .ensures) (c .before .before .wrapping-add-u64 .ensures) (c .before .is-above .ensures) (c .is-above2 .ensures)
 
 pub inverse-root-spec : {M : Type 1} → statement M
 inverse-root-spec =
     tie.close
     (tie.spec
-    sub-q
-    remainder-requires
-    mul-step
-    add-step
-    mul-step-2
-    step-requires
-    mul-step-3
-    add-step-2
-    mul-step-4
-    step-requires-2
+    add-q
+    mul-low-product
+    low-product-requires
+    mul-wrapping-add-u64
+    add-wrapping-add-u64
+    mul-wrapping-add-u64-2
+    wrapping-add-u64-requires
+    is-above-requires
+    cast-above
+    is-above-requires-2
+    cast-next-above
+    add-t9
+    sub-t10
+    sub-t11
     returns)
