@@ -2,6 +2,7 @@
 // The functions follow the numbered steps; an answer g stands for g / 2^28.
 ghost use mathlib.Core.Path.{_≡_};
 ghost use Prim.Native.Nat.{_*_, _/_, _≤_, _<_, _^_};
+ghost use lib.Dec.{eqb};
 ghost use Rattle.kinds.specs.declared.Op.the-variants.{Reciprocal, Root, InverseRoot};
 ghost use Rattle.significand.specs.Width.{k32, t32, Significand, Operand};
 ghost use Rattle.significand.specs.Steps.{rawOf};
@@ -26,36 +27,37 @@ pub struct Reply {
     pub answer: u32,
 }
 
-// The raw call. A call that is accepted is told by branches alone; the number of a refusal is worked out only behind them.
+// The raw call. Whether it is accepted is told by branches, and the number of a refusal is worked out only behind them.
 pub fn call(operation: u8, significand: u32, parity: u8) -> Reply
     ensures { λ r. ⌜ r ≡ replyTo operation significand parity ⌝ }
 {
-    if (LEAST_SIGNIFICAND <= significand) & (significand < SIGNIFICAND_LIMIT) {
-        if operation == 1 {
-            if parity == 0 {
-                return Reply {
-                    refusal: 0,
-                    answer: reciprocal(significand),
-                };
-            }
-        } else if parity <= 1 {
-            if operation == 2 {
-                return Reply {
-                    refusal: 0,
-                    answer: root(significand, parity as u32),
-                };
-            }
-            if operation == 3 {
-                return Reply {
-                    refusal: 0,
-                    answer: inverse_root(significand, parity as u32),
-                };
-            }
-        }
+    if accepts(operation, significand, parity) {
+        let answer = match Op::of(operation) {
+            Op::Reciprocal => reciprocal(significand),
+            Op::Root => root(significand, parity as u32),
+            Op::InverseRoot => inverse_root(significand, parity as u32),
+        };
+        return Reply { refusal: 0, answer };
     }
     Reply {
         refusal: refusal(operation, significand, parity),
         answer: 0,
+    }
+}
+
+// Whether questions 1, 3 and 4 are all answered "yes".
+fn accepts(operation: u8, significand: u32, parity: u8) -> bool
+    ensures { λ r. ⌜ r ≡ eqb (rawRefusal operation significand parity) 0 ⌝ }
+{
+    if (LEAST_SIGNIFICAND <= significand) & (significand < SIGNIFICAND_LIMIT) {
+        match operation {
+            1 => parity == 0,
+            2 => parity <= 1,
+            3 => parity <= 1,
+            _ => false,
+        }
+    } else {
+        false
     }
 }
 
