@@ -11,11 +11,12 @@ use Rattle.kinds.specs.declared.Op.{Op}
 use Rattle.kinds.specs.declared.Op.the-variants.{Reciprocal, Root, InverseRoot}
 use Rattle.kinds.specs.declared.Mode.{Mode}
 use Rattle.kinds.specs.Operation.{isReciprocal}
+use Rattle.kinds.specs.Guard.{restOf}
 use Rattle.kinds.proofs.Questions.{both-are}
 use Rattle.significand.specs.Width.{k32, t32, Significand, Operand}
 use Rattle.ieee.specs.Format.{binary32, infinity, magnitudeOf}
-use Rattle.ieee.specs.Floor.{scaleOf}
-use Rattle.ieee.specs.Answer.{isSpecial, toFinite, answerOf}
+use Rattle.ieee.specs.Floor.{targetOf, Floored, scaleOf}
+use Rattle.ieee.specs.Answer.{Answer, isSpecial, toFinite, answerOf}
 use Rattle.ieee.proofs.Targets.{quotient-small, quotient-large}
 use Rattle.ieee.proofs.Whole.{never-half}
 use Rattle.pattern.specs.Parts.{FieldsOf, PartsOf}
@@ -31,66 +32,101 @@ use Rattle.neighbour.specs.declared.Neighbour.{Neighbour}
 use Rattle.neighbour.specs.declared.scales.Scales.{Scales}
 use Rattle.neighbour.proofs.Results.{result-below}
 use Rattle.rounding.specs.Rounded.{roundedFrom}
-use Rattle.rounding.specs.Normal.{NormalFloor}
+use Rattle.floors.specs.Taken.{TakenOf}
+use Rattle.floors.specs.declared.taken.Taken.{Taken}
+use Rattle.rounding.specs.Normal.{NormalFloor, normalAnswer}
+use Rattle.rounding.proofs.Short.{taken-most, normal-rounded}
 use Rattle.rounding.proofs.Finite.{rounded-finite}
 use Rattle.rounding.proofs.Answers.{answer-ordinary}
-use Rattle.binary32.specs.Exact.{ExactOf}
+use Rattle.binary32.specs.Answer.{roundedAnswer, Packed, unpackedFrom}
+use Rattle.binary32.specs.Estimate.{EstimateOf}
 use Rattle.binary32.specs.Normal.{hasNormalResult, NormalScale}
-use Rattle.binary32.specs.declared.exact.Exact.{Exact}
+use Rattle.binary32.specs.declared.Rounded.{Rounded as Narrow}
+use Rattle.binary32.specs.declared.estimate.Estimate.{Estimate}
 
 -- what the raw unit asks
 pub operand-is : (op : Op) (y j : ℕ) (k : Scales) → Significand k32 t32 y → ScalesOf binary32 op j k → Operand k32 t32 op y (k .parity)
 operand-is op y j k Y s = record { significand = Y; parity = s .one-bit; even = s .even }
 
-module _ (op : Op) (x : Scaled) (r : Exact) (e : ExactOf op x r) where
-  module _ (Y : Significand k32 t32 (x .significand)) where
-    -- the floor has a significand's bits and a guard bit
-    pub floor-most : r .floor .quotient ≤ 2 ^ 25
-    floor-most = quotient-small 23 (x .significand) (r .scales .parity) (r .floor .quotient) (e .scales .one-bit) (Y .least) (Y .below) op (e .floor .low)
+module _ (op : Op) (x : Scaled) (r : Estimate) (e : EstimateOf op x r) where
+  abbrev y : ℕ
+  y = x .significand
 
-    floor-least : 2 ^ 24 ≤ r .floor .quotient
-    floor-least = quotient-large 23 (x .significand) (r .scales .parity) (r .floor .quotient) (e .scales .one-bit) (Y .least) (Y .below) op (e .floor .high)
+  abbrev k : ℕ
+  k = r .scales .scale
 
-    -- at a normal scale it is that of a normal result
-    pub normal-floor : (f : ℕ) → x .exponent ≡ f + 23 - 1 → 0 < f → NormalScale op f → NormalFloor binary32 (r .floor .quotient) (r .floor .more) (r .scales .scale)
+  -- the floor of the exact result
+  module _ (q : ℕ) (more : Bool) (F : Floored op y (targetOf 23 op y (r .scales .parity)) q more) where
+    -- has a significand's bits and a guard bit,
+    pub floor-most : q ≤ 2 ^ 25
+    floor-most = quotient-small 23 y (r .scales .parity) q (e .scales .one-bit) (e .operand .significand .least) (e .operand .significand .below) op (F .low)
+
+    -- is at a normal scale that of a normal result,
+    normal-floor : (f : ℕ) → x .exponent ≡ f + 23 - 1 → 0 < f → NormalScale op f → NormalFloor binary32 q more k
     normal-floor f j some n =
         let at : x .exponent ≡ f + 22 = omega arith in
-        let scale : r .scales .scale ≡ scaleOf binary32 op (f + 22) = e .scales .scale-is ∙ ap (scaleOf binary32 op) at in
-        let raised : r .scales .scale - 2 ≤ 251 = omega (arith, scale, n .most) in
+        let scale : k ≡ scaleOf binary32 op (f + 22) = e .scales .scale-is ∙ ap (scaleOf binary32 op) at in
+        let raised : k - 2 ≤ 251 = omega (arith, scale, n .most) in
+        let Y = e .operand .significand in
         record {
           scale = omega (arith, scale, n .least);
-          least = floor-least;
-          most = floor-most;
+          least = quotient-large 23 y (r .scales .parity) q (e .scales .one-bit) (Y .least) (Y .below) op (F .high);
           finite = omega (arith, mul-le-mul-right (2 ^ 23) raised, floor-most);
-          never-half = never-half 23 (x .significand) (r .scales .parity) (r .floor .quotient) (e .scales .one-bit) (Y .least) (Y .below) op (r .floor .more) (e .floor);
+          never-half = never-half 23 y (r .scales .parity) q (e .scales .one-bit) (Y .least) (Y .below) op more F;
         }
 
-  module _ (t : ℕ) (s : Scaling Binary32 (magnitudeOf binary32 t) x) where
-    -- it gives the pattern below the exact result,
-    pub exact-below : (n : Neighbour) → n ≡ neighbourOf binary32 (r .floor .quotient) (r .floor .more) (r .scales .scale) → BelowResult binary32 op t n
-    exact-below n en = result-below Binary32 t x s op (r .scales) (e .scales) (r .floor .quotient) (r .floor .more) (e .floor) n en
+    module _ (t : ℕ) (s : Scaling Binary32 (magnitudeOf binary32 t) x) (n : Neighbour) (en : n ≡ neighbourOf binary32 q more k) where
+      -- and gives the pattern below the exact result, which is rounded to the answer
+      exact-below : BelowResult binary32 op t n
+      exact-below = result-below Binary32 t x s op (r .scales) (e .scales) q more F n en
 
-    pub below-finite : (n : Neighbour) → n ≡ neighbourOf binary32 (r .floor .quotient) (r .floor .more) (r .scales .scale) → n .pattern < infinity binary32
-    below-finite n en = exact-below n en .finite
+      pub below-finite : n .pattern < infinity binary32
+      below-finite = exact-below .finite
 
-    -- which is rounded to the answer
-    pub exact-answered : (mode : Mode) (sign : ℕ) (n : Neighbour) (a : Rounded)
-        → n ≡ neighbourOf binary32 (r .floor .quotient) (r .floor .more) (r .scales .scale)
-        → Answered binary32 (roundedFrom binary32 mode sign n) a → Answered binary32 (toFinite binary32 op mode sign t) a
-    exact-answered mode sign n a en h = rw (← rounded-finite Binary32 op mode sign t n (exact-below n en)) h
+      pub exact-answered : (mode : Mode) (sign : ℕ) (a : Rounded) → Answered binary32 (roundedFrom binary32 mode sign n) a
+          → Answered binary32 (toFinite binary32 op mode sign t) a
+      exact-answered mode sign a h = rw (← rounded-finite Binary32 op mode sign t n exact-below) h
 
-    pub normal-answered : (mode : Mode) (sign : ℕ) (a : Rounded)
-        → Answered binary32 (roundedFrom binary32 mode sign (neighbourOf binary32 (r .floor .quotient) (r .floor .more) (r .scales .scale))) a
+  -- the significand that the rounding takes of it
+  module _ (f : ℕ) (j : x .exponent ≡ f + 23 - 1) (some : 0 < f) (N : NormalScale op f) where
+    module _ (rest : ℕ) (t : Taken) (h : TakenOf op y (targetOf 23 op y (r .scales .parity)) rest t) where
+      floor : NormalFloor binary32 (h .floor) (t .more) k
+      floor = normal-floor (h .floor) (t .more) (h .floored) f j some N
+
+      pub taken-scale : 2 ≤ k
+      taken-scale = floor .scale
+
+      pub taken-finite : (k - 2) * 2 ^ 23 + t .significand < infinity binary32
+      taken-finite = rw (h .is) (omega (arith, taken-most rest (h .floor) (t .more), floor .finite))
+
+    pub taken-answered : (t : ℕ) → Scaling Binary32 (magnitudeOf binary32 t) x → (mode : Mode) (sign : ℕ) (n : Taken)
+        → TakenOf op y (targetOf 23 op y (r .scales .parity)) (restOf mode (eqb sign 1)) n
+        → (a : Rounded) → Answered binary32 (normalAnswer binary32 sign k (n .significand) (n .more)) a
         → Answered binary32 (toFinite binary32 op mode sign t) a
-    normal-answered mode sign a h = exact-answered mode sign _ a refl h
+    taken-answered t s mode sign n h a ans =
+        let m : Neighbour = neighbourOf binary32 (h .floor) (n .more) k in
+        let same = normal-rounded binary32 (h .floor) k (n .more) (floor (restOf mode (eqb sign 1)) n h) mode sign in
+        exact-answered (h .floor) (n .more) (h .floored) t s m refl mode sign a
+        (rw (same, ← h .is) ans)
 
 -- by the case of the operation
-module _ (op case : Op) (o : op ≡ case) where
-  pub scale-case : (e : ℕ) → NormalScale op e → NormalScale case e
-  scale-case e n = rw (← o) n
+pub answer-case : (op case : Op) (mode : Mode) (b : ℕ) (r : Narrow) → op ≡ case → r ≡ roundedAnswer (answerOf binary32 case mode b)
+    → r ≡ roundedAnswer (answerOf binary32 op mode b)
+answer-case op case mode b r o e = rw o e
 
-  pub finite-case : (mode : Mode) (s t : ℕ) (r : Rounded) → Answered binary32 (toFinite binary32 case mode s t) r → Answered binary32 (toFinite binary32 op mode s t) r
-  finite-case mode s t r a = rw o a
+-- the answer in 32 bits, in one number, and back from it
+module _ (a : Answer) (r : Rounded) (h : Answered binary32 a r) where
+  pub narrowed : record { bits = r .bits; flags = r .flags } ≡ roundedAnswer a
+  narrowed = rw (h .bits-are, h .flags-are)
+
+  pub packed-is : (v : ℕ) → v ≡ r .flags * 2 ^ 32 + r .bits → v < 2 ^ 40 → Packed a v
+  packed-is v e small = record { is = rw (← h .bits-are, ← h .flags-are) e; short = rw (← h .bits-are) (h .pattern); small = small }
+
+pub unpacked-is : (a : Answer) (v : ℕ) (r : Narrow) → Packed a v → r ≡ unpackedFrom v → r ≡ roundedAnswer a
+unpacked-is a v r h e =
+    let low : v % 2 ^ 32 ≡ a .bits = omega (arith, h .is, h .short) in
+    let high : v / 2 ^ 32 ≡ a .flags = omega (arith, h .is, h .short) in
+    e ∙ rw (low, high)
 
 -- the operand t with the exponent field f: finite and not zero, not negative for a root, and its result has a normal scale
 record Plain (op : Op) (s t f : ℕ) : Type 0 where

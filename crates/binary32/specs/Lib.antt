@@ -1,4 +1,4 @@
 pub mod Answer
-pub mod Exact
+pub mod Estimate
 pub mod Normal
 pub mod Reply

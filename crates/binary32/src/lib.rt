@@ -1,8 +1,8 @@
 // The binary32 unit: reciprocal, root and inverse root of a pattern, correctly rounded, with flags.
-mod exact;
+mod estimate;
 
 ghost use mathlib.Core.Path.{_≡_};
-ghost use Prim.Native.Nat.{_^_, _<_};
+ghost use Prim.Native.Nat.{_+_, _*_, _^_, _<_};
 ghost use Rattle.ieee.specs.Format.{binary32};
 ghost use Rattle.kinds.specs.declared.Op.the-variants.{Root};
 ghost use Rattle.ieee.specs.Answer.{answerOf, toFinite};
@@ -10,10 +10,12 @@ ghost use Rattle.ieee.specs.Call.{binary32Refusal};
 ghost use Rattle.pattern.specs.Answer.{Answered};
 ghost use Rattle.pattern.specs.Operand.{Ordinary};
 ghost use Rattle.pattern.specs.Parts.{FieldsOf};
-ghost use Rattle.binary32.specs.Answer.{roundedAnswer};
+ghost use Rattle.binary32.specs.Answer.{roundedAnswer, Packed, unpackedFrom};
 ghost use Rattle.binary32.specs.Normal.{hasNormalResult, NormalScale};
 ghost use Rattle.binary32.specs.Reply.{replyTo};
-use exact::exact_result;
+use estimate::estimate_of;
+use floors::floor_of;
+use floors::taken::taken_of;
 use kinds::Mode;
 use kinds::Op;
 use kinds::ask;
@@ -24,15 +26,15 @@ use pattern::operand::scale;
 use pattern::operand::scale_normal;
 use pattern::parts::Parts;
 use pattern::parts::fields;
-use rounding::normal::round_normal;
+use rounding::normal::normal_answer;
 use rounding::round;
 use special::is_special;
 use special::special;
 
 // The least normal pattern, and infinity's.
-const LEAST_NORMAL: u64 = 0x80_0000;
+const LEAST_NORMAL: u32 = 0x80_0000;
 
-const INFINITY: u64 = 0x7F80_0000;
+const INFINITY: u32 = 0x7F80_0000;
 
 // A pattern and the flags that its operation raises.
 pub struct Rounded {
@@ -60,7 +62,7 @@ pub fn call(operation: u8, rounding: u8, bits: u32, status: u8) -> Reply
             status,
         };
     }
-    let rounded = answer(Op::of(operation), Mode::of(rounding), bits);
+    let rounded = answer_by(Op::of(operation), Mode::of(rounding), bits);
     Reply {
         refusal,
         bits: rounded.bits,
@@ -77,33 +79,34 @@ fn refusal(operation: u8, rounding: u8) -> u8
     ask(known, 1, second)
 }
 
-// An operation on a pattern.
+// The answer of an operation, each compiled for itself.
+fn answer_by(op: Op, mode: Mode, bits: u32) -> Rounded
+    ensures { λ r. ⌜ r ≡ roundedAnswer (answerOf binary32 op mode bits) ⌝ }
+{
+    match op {
+        Op::Reciprocal => answer(Op::Reciprocal, mode, bits),
+        Op::Root => answer(Op::Root, mode, bits),
+        Op::InverseRoot => answer(Op::InverseRoot, mode, bits),
+    }
+}
+
+// A normal result is worked out here, and any other apart.
 fn answer(op: Op, mode: Mode, bits: u32) -> Rounded
     ensures { λ r. ⌜ r ≡ roundedAnswer (answerOf binary32 op mode bits) ⌝ }
 {
-    let r = answer_in_64_bits(op, mode, bits as u64);
-    Rounded {
-        bits: r.bits as u32,
-        flags: r.flags,
-    }
-}
-
-fn answer_in_64_bits(op: Op, mode: Mode, bits: u64) -> pattern::answer::Rounded
-    requires { ⌜ bits < 2 ^ 32 ⌝ }
-    ensures { λ r. ⌜ Answered binary32 (answerOf binary32 op mode bits) r ⌝ }
-{
-    let x = fields(Width::Binary32, bits);
+    let x = fields(Width::Binary32, bits as u64);
     if has_normal_result(op, bits, x.exponent) {
-        return normal_by(op, mode, x);
+        let r = normal(op, mode, x);
+        return Rounded {
+            bits: r.bits as u32,
+            flags: r.flags,
+        };
     }
-    if is_special(Width::Binary32, op, x) {
-        return special(Width::Binary32, op, x);
-    }
-    any(op, mode, x)
+    unpacked(apart(op, mode, bits))
 }
 
 // Whether the result is a normal number, whatever the rounding.
-fn has_normal_result(op: Op, bits: u64, exponent: u64) -> bool
+fn has_normal_result(op: Op, bits: u32, exponent: u64) -> bool
     ensures { λ r. ⌜ r ≡ hasNormalResult op bits exponent ⌝ }
 {
     match op {
@@ -113,22 +116,10 @@ fn has_normal_result(op: Op, bits: u64, exponent: u64) -> bool
     }
 }
 
-fn is_positive_normal(bits: u64) -> bool
+fn is_positive_normal(bits: u32) -> bool
     ensures { λ r. ⌜ r ≡ hasNormalResult Root bits 0 ⌝ }
 {
     (LEAST_NORMAL <= bits) & (bits < INFINITY)
-}
-
-// The short way by its operation, so that each is compiled for itself.
-fn normal_by(op: Op, mode: Mode, x: Parts) -> pattern::answer::Rounded
-    requires { ⌜ Ordinary binary32 (x .unsigned) × FieldsOf binary32 x × (x .sign < 2) × (0 < x .exponent) × NormalScale op (x .exponent) ⌝ }
-    ensures { λ r. ⌜ Answered binary32 (toFinite binary32 op mode (x .sign) (x .unsigned)) r ⌝ }
-{
-    match op {
-        Op::Reciprocal => normal(Op::Reciprocal, mode, x),
-        Op::Root => normal(Op::Root, mode, x),
-        Op::InverseRoot => normal(Op::InverseRoot, mode, x),
-    }
 }
 
 // A normal result of a normal operand.
@@ -136,28 +127,61 @@ fn normal(op: Op, mode: Mode, x: Parts) -> pattern::answer::Rounded
     requires { ⌜ Ordinary binary32 (x .unsigned) × FieldsOf binary32 x × (x .sign < 2) × (0 < x .exponent) × NormalScale op (x .exponent) ⌝ }
     ensures { λ r. ⌜ Answered binary32 (toFinite binary32 op mode (x .sign) (x .unsigned)) r ⌝ }
 {
-    let e = exact_result(op, scale_normal(Width::Binary32, x));
-    round_normal(
-        Width::Binary32,
+    let s = scale_normal(Width::Binary32, x);
+    let e = estimate_of(op, s);
+    let t = taken_of(
+        op,
         mode,
+        x.sign == 1,
+        s.significand,
+        e.scales.parity,
+        e.answer,
+    );
+    normal_answer(
+        Width::Binary32,
         x.sign,
-        e.floor.quotient,
-        e.floor.more,
         e.scales.scale,
+        t.significand,
+        t.more,
     )
 }
 
+// The answer to any pattern, in one number: the flags above the bits.
+fn apart(op: Op, mode: Mode, bits: u32) -> u64
+    ensures { λ r. ⌜ Packed (answerOf binary32 op mode bits) r ⌝ }
+{
+    let x = fields(Width::Binary32, bits as u64);
+    if is_special(Width::Binary32, op, x) {
+        return packed(special(Width::Binary32, op, x));
+    }
+    packed(finite(op, mode, x))
+}
+
 // Any result of an operand that is finite and not zero.
-fn any(op: Op, mode: Mode, x: Parts) -> pattern::answer::Rounded
+fn finite(op: Op, mode: Mode, x: Parts) -> pattern::answer::Rounded
     requires { ⌜ Ordinary binary32 (x .unsigned) × FieldsOf binary32 x × (x .sign < 2) ⌝ }
     ensures { λ r. ⌜ Answered binary32 (toFinite binary32 op mode (x .sign) (x .unsigned)) r ⌝ }
 {
-    let e = exact_result(op, scale(Width::Binary32, x));
-    let n = lower(
-        Width::Binary32,
-        e.floor.quotient,
-        e.floor.more,
-        e.scales.scale,
-    );
+    let s = scale(Width::Binary32, x);
+    let e = estimate_of(op, s);
+    let f = floor_of(op, s.significand, e.scales.parity, e.answer);
+    let n = lower(Width::Binary32, f.quotient, f.more, e.scales.scale);
     round(Width::Binary32, mode, x.sign, n)
+}
+
+fn packed(r: pattern::answer::Rounded) -> u64
+    requires { ⌜ r .bits < 2 ^ 32 ⌝ }
+    ensures { λ v. ⌜ (v ≡ r .flags * 2 ^ 32 + r .bits) × (v < 2 ^ 40) ⌝ }
+{
+    (r.flags as u64) * 0x1_0000_0000 + r.bits
+}
+
+fn unpacked(v: u64) -> Rounded
+    requires { ⌜ v < 2 ^ 40 ⌝ }
+    ensures { λ r. ⌜ r ≡ unpackedFrom v ⌝ }
+{
+    Rounded {
+        bits: (v % 0x1_0000_0000) as u32,
+        flags: (v / 0x1_0000_0000) as u8,
+    }
 }

@@ -20,6 +20,7 @@ use Rattle.ieee.specs.Floor.{targetOf, Floored}
 use Rattle.ieee.proofs.Neighbours.{side-rising}
 use Rattle.ieee.proofs.Targets.{quotient-small, quotient-large}
 use Rattle.ieee.proofs.Whole.{reciprocal-rest, inverse-rest}
+use Rattle.floors.specs.declared.Floor.{Floor}
 use Rattle.floors.proofs.Between.{strideOf, side-under, side-over}
 use Rattle.floors.proofs.Modulo.{above-told}
 
@@ -152,13 +153,16 @@ module _ (op : Op) (y p g : ℕ) (Y : Significand k32 t32 y) (parity : p ≤ 1) 
   pub tried-small : q ≤ 2 ^ 25 + 1
   tried-small = omega (arith, quotient-small m32 y p (q - 1) parity (Y .least) (Y .below) op (le-of-lt tried-low))
 
-  pub tried-some : 0 < q
-  tried-some =
+  pub tried-large : 2 ^ 24 ≤ q + 2
+  tried-large =
       omega (
         arith,
         quotient-large m32 y p (q + 2) parity (Y .least) (Y .below) op
             (omega (arith, tried-high, side-rising op y {v = q + aheadOf op} {w = suc (q + 2)} (omega (arith, ahead-most op)))),
       )
+
+  pub tried-some : 0 < q
+  tried-some = omega (arith, tried-large)
 
 -- the greatest number is the floor
 floored : (op : Op) (y x r : ℕ) (more : Bool) → Greatest op y x r → more ≡ not (eqb (side op y r) x) → Floored op y x r more
@@ -196,6 +200,9 @@ module _ (y g : ℕ) (Y : Significand k32 t32 y) where
 
       pub root-square : s < 2 ^ 64
       root-square = lt-of-le-of-lt (mul-le-mul (tried-small Root y p g Y parity b) (tried-small Root y p g Y parity b)) (omega arith)
+
+      pub root-floor-small : (r : Floor) → Floored Root y (y * 2 ^ (25 + p)) (r .quotient) (r .more) → r .quotient < 2 ^ 63
+      root-floor-small r F = omega (arith, quotient-small m32 y p (r .quotient) parity (Y .least) (Y .below) Root (F .low))
 
       -- the shifted operand loses nothing
       pub root-floor : Floored Root y (y * 2 ^ (25 + p)) (triedOf Root g - boolByte (ltb (y * 2 ^ (25 + p) % 2 ^ 64) s)) (not (eqb s (y * 2 ^ (25 + p) % 2 ^ 64)))
@@ -267,6 +274,12 @@ module _ (y g : ℕ) (Y : Significand k32 t32 y) where
       pub inverse-amount : (2 * i + 1) * y < 2 ^ 64
       inverse-amount = omega (arith, short i (omega (arith, tried-small InverseRoot y p g Y parity b)))
 
+      -- the floor, and its form as it is worked out
+      pub inverse-floored : Floored InverseRoot y target (i + 1 - boolByte (ltb target (side InverseRoot y i)) - boolByte (ltb target (side InverseRoot y (i + 1)))) (not (eqb y 8388608) || eqb p 1)
+      inverse-floored =
+          let r = counted-two InverseRoot y target i some low high in
+          floored InverseRoot y target _ _ r (inverse-rest m32 y _ (Y .least) (Y .below) p parity (r .low) (r .high))
+
       pub inverse-floor : (v w : ℕ) (a c : Bool) → v ≡ i * i * y % 2 ^ 64 → w ≡ (v + (2 * i + 1) * y) % 2 ^ 64
           → a ≡ not (eqb v 0) && ltb v 9223372036854775808 → c ≡ not (eqb w 0) && ltb w 9223372036854775808
           → Floored InverseRoot y (2 ^ (73 - p)) (i + 1 - boolByte a - boolByte c) (not (eqb y 8388608) || eqb p 1)
@@ -275,5 +288,4 @@ module _ (y g : ℕ) (Y : Significand k32 t32 y) where
           let first : a ≡ ltb target (side InverseRoot y i) = ea ∙ told (side InverseRoot y i) v ev (omega (arith, t)) (omega (arith, t)) in
           let sum : w ≡ side InverseRoot y (i + 1) % 2 ^ 64 = rw (← amount-is InverseRoot y i) (omega (arith, ev, ew)) in
           let second : c ≡ ltb target (side InverseRoot y (i + 1)) = ec ∙ told (side InverseRoot y (i + 1)) w sum (omega (arith, t)) (omega (arith, t)) in
-          let r = counted-two InverseRoot y target i some low high in
-          rw (first, second) (floored InverseRoot y target _ _ r (inverse-rest m32 y _ (Y .least) (Y .below) p parity (r .low) (r .high)))
+          rw (first, second) inverse-floored

@@ -2,3 +2,4 @@ pub mod Between
 pub mod Modulo
 pub mod Counted
 pub mod Cases
+pub mod Tested

@@ -6,8 +6,8 @@ use Prim.Native.Nat.{ℕ, suc, _+_, _*_, _≤_, _<_}
 use native.Mathlib.Nat.{mul-le-mul-left}
 use native.Mathlib.Decide.{decLt, ℕ-discrete}
 use native.Mathlib.Omega.{arith}
-use borrow.Author.Tests.{eq-eqb, ne-eqb, lt-ltb, le-ltb}
-use lib.Dec.{eqb, ltb}
+use borrow.Author.Tests.{eq-eqb, ne-eqb, lt-ltb, le-ltb, lt-leb, le-leb}
+use lib.Dec.{eqb, ltb, leb}
 
 -- v is that remainder: below H it is their difference, and else it lacks 2 H
 module _ (B H s x v i j : ℕ) (half : B ≡ H + H) (below : v < B) (is : v + x + B * i ≡ s + B * j) (low : s < x + H) (high : x < s + H) where
@@ -43,3 +43,10 @@ module _ (B H s x v i j : ℕ) (half : B ≡ H + H) (below : v < B) (is : v + x 
       (by-cases (decLt v H)
       (λ l. lt-ltb v H l ∙ sym (lt-ltb x s (omega (arith, upper l, n))))
       (λ l. le-ltb v H (omega arith) ∙ sym (le-ltb x s (omega (arith, lower (omega arith)))))))
+
+  -- or below it
+  pub below-told : leb H v ≡ ltb s x
+  below-told =
+      by-cases (decLt v H)
+      (λ l. lt-leb H v l ∙ sym (le-ltb s x (omega (arith, upper l))))
+      (λ l. le-leb H v (omega arith) ∙ sym (lt-ltb s x (omega (arith, lower (omega arith)))))

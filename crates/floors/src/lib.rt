@@ -1,5 +1,7 @@
 // The floor of an exact result with one guard bit, from a raw answer at k = 7. Its distances leave two or three numbers, and how many of
 // them have a side above the target is told by one remainder, and by the remainder and one step.
+pub mod taken;
+
 ghost use mathlib.Core.Path.{_≡_};
 ghost use mathlib.Core.Bool.{not, _&&_};
 ghost use Prim.Native.Nat.{_^_, _≤_, _<_};

@@ -1,7 +1,7 @@
 -- The floor of an operation on a significand, with a guard bit, over the bits m of a fraction. Assumes nothing.
 use mathlib.Core.Path.{_≡_}
-use mathlib.Core.Bool.{Bool, not}
-use Prim.Native.Nat.{ℕ, suc, _+_, _*_, _-_, _/_, _%_, _^_, _≤_, _<_}
+use mathlib.Core.Bool.{Bool, cond, not}
+use Prim.Native.Nat.{ℕ, zero, suc, _+_, _*_, _-_, _/_, _%_, _^_, _≤_, _<_}
 use lib.Dec.{eqb}
 use Rattle.kinds.specs.declared.Op.{Op}
 use Rattle.kinds.specs.declared.Op.the-variants.{Reciprocal, Root, InverseRoot}
@@ -20,6 +20,12 @@ pub record Floored (op : Op) (y x q : ℕ) (more : Bool) : Type 0 where
   pub low : side op y q ≤ x
   pub high : x < side op y (suc q)
   pub rest : more ≡ not (eqb (side op y q) x)
+
+-- the significand that a rounding takes of a floor q with a guard bit, by its rest: 0 away from zero, 1 to the nearest, 2 toward zero
+unfoldable pub takenBy : ℕ → ℕ → Bool → ℕ
+takenBy zero q more = (q + 1 + cond more 1 0) / 2
+takenBy (suc zero) q more = (q + 1) / 2
+takenBy (suc (suc _)) q more = q / 2
 
 -- The operand is X = y / 2^m × 2^(j − u), y its significand, and a floor q at the scale k stands for q × 2^(k − 3) units of 2^-u.
 -- 1 / X is 2^(2m + 2) / y × 2^(2u − m − 2 − j) units; √X is √(y × 2^(m + 2 + p)) × 2^((j + u − p) / 2 − m − 1) units;

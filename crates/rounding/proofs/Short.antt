@@ -2,29 +2,29 @@
 use mathlib.Core.Path.{_≡_, refl, sym, ap, ap₂, _∙_}
 use mathlib.Core.Bool.{Bool, true, false, true≢false, cond, not, _&&_, _||_, or-false}
 use mathlib.Core.Logic.{by-cases}
-use Prim.Native.Nat.{ℕ, suc, _+_, _*_, _-_, _/_, _%_, _^_, _≤_, _<_, min}
+use Prim.Native.Nat.{ℕ, zero, suc, _+_, _*_, _-_, _/_, _%_, _^_, _≤_, _<_, min}
 use native.Mathlib.Nat.{pow-suc, pow-zero, div-one, mul-one}
 use native.Mathlib.Decide.{decLt}
 use native.Mathlib.Omega.{arith}
 use borrow.Author.Tests.{eqb-true, eqb-false, eq-eqb, ne-eqb, le-ltb, lt-leb}
 use lib.Dec.{eqb, ltb, leb}
-use lib.Pow.{pow-mono}
 use mir.Syntax.{w64}
-use mir.Val.{Fits, boolByte}
+use mir.Val.{Fits}
 use Rattle.kinds.specs.declared.Mode.{Mode}
 use Rattle.kinds.specs.declared.Mode.the-variants.{Nearest, Up, Down, TowardZero}
 use Rattle.kinds.specs.Rounding.{away}
-use Rattle.kinds.specs.Guard.{placeOf}
+use Rattle.kinds.specs.Guard.{placeOf, restOf}
 use Rattle.kinds.specs.Flag.{overflow, underflow, inexact}
 use Rattle.ieee.specs.Format.{Format, signBit, infinity, leastNormal}
 use Rattle.ieee.specs.Answer.{Answer, answer, withSignBit}
 use Rattle.ieee.specs.Guarded.{kept}
+use Rattle.ieee.specs.Floor.{takenBy}
 use Rattle.pattern.specs.Width.{ConstantsOf}
 use Rattle.pattern.specs.Answer.{Answered}
 use Rattle.pattern.specs.declared.Constants.{Constants}
 use Rattle.neighbour.specs.Neighbour.{neighbourOf}
 use Rattle.rounding.specs.Rounded.{takenFrom, roundedFrom}
-use Rattle.rounding.specs.Normal.{NormalFloor, outwardOf, takenOf}
+use Rattle.rounding.specs.Normal.{NormalFloor, normalAnswer}
 
 -- an even number has the half of the next number
 even-half : (q : ℕ) → eqb (q % 2) 1 ≡ false → (q + 1) / 2 ≡ q / 2
@@ -32,8 +32,8 @@ even-half q e = let n = eqb-false (q % 2) 1 e in by-cases (decLt (q % 2) 1) (λ 
 
 -- the half of q, or the next, by the guard bit and what lies above
 half-or-next : (mode : Mode) (negative odd b more : Bool) (q : ℕ) → eqb (q % 2) 1 ≡ b → (b ≡ true → more ≡ true)
-    → takenOf mode negative q more ≡ cond (away mode negative odd (placeOf b more)) (q / 2 + 1) (q / 2)
-unfolding away
+    → takenBy (restOf mode negative) q more ≡ cond (away mode negative odd (placeOf b more)) (q / 2 + 1) (q / 2)
+unfolding away restOf takenBy
 half-or-next mode negative odd true false q e n = absurd (true≢false (sym (n refl)))
 half-or-next Nearest negative odd true true q e n = omega (arith, eqb-true (q % 2) 1 e)
 half-or-next Nearest negative odd false true q e n = even-half q e
@@ -54,25 +54,15 @@ half-or-next TowardZero negative odd true true q e n = refl
 half-or-next TowardZero negative odd false true q e n = refl
 half-or-next TowardZero negative odd false false q e n = refl
 
--- a comparison counts at most once
-pub bit-most : (b : Bool) → boolByte b ≤ 1
-bit-most true = omega arith
-bit-most false = omega arith
+away-most : (q : ℕ) (more : Bool) → (q + 1 + cond more 1 0) / 2 ≤ q / 2 + 1
+away-most q true = omega arith
+away-most q false = omega arith
 
--- by the case of the rounding
-pub taken-case : (mode case : Mode) (negative : Bool) (q r : ℕ) (more : Bool) → mode ≡ case → r ≡ takenOf case negative q more → r ≡ takenOf mode negative q more
-taken-case mode case negative q r more o e = rw o e
-
-outward-most : (far : Bool) (q : ℕ) (more : Bool) → outwardOf far q more ≤ q / 2 + 1
-outward-most true q true = omega arith
-outward-most true q false = omega arith
-outward-most false q more = omega arith
-
-pub taken-most : (mode : Mode) (negative : Bool) (q : ℕ) (more : Bool) → takenOf mode negative q more ≤ q / 2 + 1
-taken-most Nearest negative q more = omega arith
-taken-most Up negative q more = outward-most (not negative) q more
-taken-most Down negative q more = outward-most negative q more
-taken-most TowardZero negative q more = omega arith
+pub taken-most : (rest q : ℕ) (more : Bool) → takenBy rest q more ≤ q / 2 + 1
+unfolding takenBy
+taken-most zero q more = away-most q more
+taken-most (suc zero) q more = omega arith
+taken-most (suc (suc rest)) q more = omega arith
 
 module _ (f : Format) (q k : ℕ) (more : Bool) (n : NormalFloor f q more k) where
   -- the pattern below the exact result
@@ -107,7 +97,7 @@ module _ (f : Format) (q k : ℕ) (more : Bool) (n : NormalFloor f q more k) whe
 
   module _ (mode : Mode) (s : ℕ) where
     abbrev up : ℕ
-    up = (k - 2) * 2 ^ f .fractionBits + takenOf mode (eqb s 1) q more
+    up = (k - 2) * 2 ^ f .fractionBits + takenBy (restOf mode (eqb s 1)) q more
 
     taken-is : takenFrom mode s (record { pattern = t; half = eqb (q % 2) 1; more = more; beyond = false }) ≡ up
     taken-is =
@@ -119,37 +109,31 @@ module _ (f : Format) (q k : ℕ) (more : Bool) (n : NormalFloor f q more k) whe
         go false = refl
 
     up-finite : up < infinity f
-    up-finite = omega (arith, taken-most mode (eqb s 1) q more, n .finite)
+    up-finite = omega (arith, taken-most (restOf mode (eqb s 1)) q more, n .finite)
 
     normal-least : leastNormal f ≤ t
     normal-least = omega (arith, n .least, pow-suc 2 (f .fractionBits))
 
     -- neither overflow nor underflow, and inexact where something lies above
-    normal-rounded : roundedFrom f mode s (neighbourOf f q more k) ≡ answer (withSignBit f s up) (cond more inexact 0)
-    unfolding roundedFrom
+    pub normal-rounded : roundedFrom f mode s (neighbourOf f q more k) ≡ normalAnswer f s k (takenBy (restOf mode (eqb s 1)) q more) more
+    unfolding roundedFrom normalAnswer
     normal-rounded =
         rw (neighbour-is, taken-is, ne-eqb up (infinity f) (λ e. omega (arith, up-finite)), le-ltb t (leastNormal f) normal-least, inexact-is)
         (ap (answer (withSignBit f s up)) (omega arith))
 
-    -- as it is worked out: nothing leaves a word
-    module _ (c : Constants) (is : ConstantsOf f c) where
-      pub floor-small : q < 2 ^ 63
-      floor-small = omega (arith, n .most, pow-mono {i = suc (suc (f .fractionBits))} {j = 54} (omega (arith, is .few, is .fraction-is)))
+-- the answer as it is worked out: nothing leaves a word
+module _ (f : Format) (s k n : ℕ) (more : Bool) (c : Constants) (is : ConstantsOf f c) (finite : (k - 2) * 2 ^ f .fractionBits + n < infinity f) where
+  pub scale-fits : Fits w64 ((k - 2) * c .normal)
+  scale-fits = rw (is .normal-is) (omega (arith, finite, is))
 
-      pub scale-fits : Fits w64 ((k - 2) * c .normal)
-      scale-fits = rw (is .normal-is) (omega (arith, n .finite, is))
+  pub pattern-fits : Fits w64 ((k - 2) * c .normal + n)
+  pattern-fits = rw (is .normal-is) (omega (arith, finite, is))
 
-      module _ (u : ℕ) (eu : u ≡ takenOf mode (eqb s 1) q more) where
-        same : (k - 2) * c .normal + u ≡ up
-        same = rw (is .normal-is, eu)
+  pub pattern-finite : (k - 2) * c .normal + n < signBit f
+  pattern-finite = rw (is .normal-is) (omega (arith, finite, is))
 
-        pub pattern-fits : Fits w64 ((k - 2) * c .normal + u)
-        pattern-fits = rw same (omega (arith, up-finite, is))
-
-        pub pattern-finite : (k - 2) * c .normal + u < signBit f
-        pattern-finite = rw same (omega (arith, up-finite, is))
-
-        pub normal-answered : (bits flags : ℕ) → bits ≡ withSignBit f s ((k - 2) * c .normal + u) → bits < 2 * signBit f → flags ≡ cond more inexact 0
-            → Answered f (roundedFrom f mode s (neighbourOf f q more k)) (record { bits = bits; flags = flags })
-        normal-answered bits flags eb small ef =
-            rw normal-rounded (record { bits-are = eb ∙ ap (withSignBit f s) same; flags-are = ef; pattern = small })
+  pub normal-answered : (bits flags : ℕ) → bits ≡ withSignBit f s ((k - 2) * c .normal + n) → bits < 2 * signBit f → flags ≡ cond more inexact 0
+      → Answered f (normalAnswer f s k n more) (record { bits = bits; flags = flags })
+  unfolding normalAnswer
+  normal-answered bits flags eb small ef =
+      record { bits-are = eb ∙ ap (λ (m : ℕ). withSignBit f s ((k - 2) * m + n)) (is .normal-is); flags-are = ef; pattern = small }

@@ -1,0 +1,18 @@
+-- `floors::taken::root_taken` meets its contract: the floor, rounded. Assumes nothing.
+use Rattle.floors.proofs.Counted.{root-floor-small}
+use Rattle.floors.proofs.Tested.{root-taken-is}
+use borrow.Author.Needs.{needs}
+use Rattle.floors.proofs.taken.root_taken.Statement.{statement}
+use Rattle.floors.proofs.taken.root_taken.Tie as tie
+
+root-requires : tie.Need-root-requires
+root-requires c κs = search needs
+
+taken-by-requires : tie.Need-taken-by-requires
+taken-by-requires c κs = (search needs, search root-floor-small)
+
+returns : tie.Need-returns
+returns c = search needs
+
+pub root-taken-spec : {M : Type 1} → statement M
+root-taken-spec = tie.close (tie.spec root-requires taken-by-requires returns)
