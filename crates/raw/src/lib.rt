@@ -7,7 +7,7 @@ ghost use Rattle.kinds.specs.declared.Op.the-variants.{Reciprocal, Root, Invers
 ghost use Rattle.significand.specs.Width.{k32, t32, Significand, Operand};
 ghost use Rattle.significand.specs.Steps.{rawOf};
 ghost use Rattle.significand.specs.Call.{rawRefusal};
-ghost use Rattle.tables.specs.Row.{indexAt};
+ghost use Rattle.tables.specs.Row.{indexAt, parityAt};
 ghost use Rattle.raw.specs.Reply.{replyTo};
 use kinds::Op;
 use kinds::ask;
@@ -118,12 +118,12 @@ pub fn inverse_root(y: u32, p: u32) -> u32
     shifted_product(row.1, b)
 }
 
-// The key of a root's row: the seven lower bits of the index, with the parity above them.
+// The key of a root's row: the seven lower bits of the index, the parity above them, and a one above both.
 fn row_key(y: u32, p: u32) -> u32
     requires { ⌜ Significand k32 t32 y × (p ≤ 1) ⌝ }
-    ensures { λ r. ⌜ (r < 256) × (indexAt k32 r ≡ y / 2 ^ 16) × (r / 128 ≡ p) ⌝ }
+    ensures { λ r. ⌜ (256 ≤ r) × (r < 512) × (indexAt k32 r ≡ y / 2 ^ 16) × (parityAt k32 r ≡ p) ⌝ }
 {
-    (y >> 16) % 128 + 128 * (p % 2)
+    (y >> 16) % 128 + 128 * (p % 2) + 256
 }
 
 // Step 5: M × b over 2^28, floored.
