@@ -28,6 +28,7 @@ pub struct Reply {
 }
 
 // The raw call. Whether it is accepted is told by branches, and the number of a refusal is worked out only behind them.
+// By `answer` in place of its own cases each call would be a nanosecond longer: that function is too large to be inlined twice.
 pub fn call(operation: u8, significand: u32, parity: u8) -> Reply
     ensures { λ r. ⌜ r ≡ replyTo operation significand parity ⌝ }
 {
@@ -45,7 +46,7 @@ pub fn call(operation: u8, significand: u32, parity: u8) -> Reply
     }
 }
 
-// Whether questions 1, 3 and 4 are all answered "yes".
+// Whether questions 1, 3 and 4 are all answered "yes". Operations 2 and 3 have an arm each: a range is not compiled to branches.
 fn accepts(operation: u8, significand: u32, parity: u8) -> bool
     ensures { λ r. ⌜ r ≡ eqb (rawRefusal operation significand parity) 0 ⌝ }
 {
