@@ -9,12 +9,12 @@ import sys
 from math import isqrt
 from pathlib import Path
 
-# The file, the function whose body is a match on a key, the number of its keys, and the arm by R, 32,768 / i floored, and the
-# parity p: a key is i - 128, with 128 added where p is 1.
+# The file, the function whose body is a match on a key, its keys, and the arm by R, 32,768 / i floored, and the parity p: the seven
+# lower bits of a key are those of i, and the bit above them is p.
 TABLES = [
-    ("crates/factors/src/lib.rt", "factor", 128, lambda r, p: f"{r}"),
-    ("crates/roots/src/lib.rt", "row", 256, lambda r, p: f"Row({r}, {nearest_root(2**(64 + p), r)})"),
-    ("crates/inverse_roots/src/lib.rt", "row", 256, lambda r, p: f"Row({r}, {nearest_root(r * 2**56, 2**(8 + p))})"),
+    ("crates/factors/src/lib.rt", "factor", range(128), lambda r, p: f"{r}"),
+    ("crates/roots/src/lib.rt", "row", range(256, 512), lambda r, p: f"Row({r}, {nearest_root(2**(64 + p), r)})"),
+    ("crates/inverse_roots/src/lib.rt", "row", range(256, 512), lambda r, p: f"Row({r}, {nearest_root(r * 2**56, 2**(8 + p))})"),
 ]
 
 
@@ -26,8 +26,8 @@ def nearest_root(n, d):
 
 def with_arms(text, function, keys, rule):
     """The text with the arms of the match in this function made anew."""
-    arms = "".join(f"        {key if key < keys - 1 else '_'} => {rule(32768 // (128 + key % 128), key // 128)},\n"
-                   for key in range(keys))
+    arms = "".join(f"        {key if key < keys[-1] else '_'} => {rule(32768 // (128 + key % 128), key // 128 % 2)},\n"
+                   for key in keys)
     pattern = rf"(\bfn {function}\((?:(?!\bfn ).)*?\n    match key \{{\n)[^}}]*(    \}}\n)"
     text, count = re.subn(pattern, lambda found: found[1] + arms + found[2], text, flags=re.S)
     assert count == 1, function

@@ -1,6 +1,6 @@
 -- The product of step 5, the raw answer that it is, and the answer by the operation. Assumes nothing.
 use mathlib.Core.Path.{_≡_, sym, ap, ap₂, _∙_}
-use Prim.Native.Nat.{ℕ, _+_, _*_, _/_, _%_, _^_, _≤_, _<_}
+use Prim.Native.Nat.{ℕ, _*_, _/_, _%_, _^_, _≤_, _<_}
 use native.Mathlib.Nat.{mul-le-mul}
 use native.Mathlib.Omega.{arith}
 use mir.Syntax.{w64}
@@ -12,7 +12,7 @@ use Rattle.significand.specs.Steps.{factorOf, seriesOf, multiplierOf, rawOf}
 use Rattle.significand.proofs.Numerals.{reciprocal-multiplier, answer-is}
 use Rattle.significand.proofs.Sizes.{factor-small, multiplier-small}
 use Rattle.tables.specs.declared.Row.{Row}
-use Rattle.tables.specs.Row.{indexAt, RowOf}
+use Rattle.tables.specs.Row.{indexAt, parityAt, RowOf}
 use Rattle.series.specs.declared.Reduction.{Reduction}
 use Rattle.series.specs.Parts.{Reduced}
 
@@ -54,7 +54,7 @@ module _ (op : Op) (y p key : ℕ) (r : Row) (h : RowOf k32 op key r) (i : index
   pub row-factor : r .0 ≡ factorOf k32 (y / 65536)
   row-factor = h .factor ∙ ap (factorOf k32) i
 
-  module _ (e : key / 128 ≡ p) where
+  module _ (e : parityAt k32 key ≡ p) where
     row-multiplier : r .1 ≡ multiplierOf k32 op (factorOf k32 (y / 65536)) p
     row-multiplier = h .multiplier ∙ ap₂ (λ (j q : ℕ). multiplierOf k32 op (factorOf k32 j) q) i e
 

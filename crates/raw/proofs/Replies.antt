@@ -1,7 +1,7 @@
 -- Whether a raw call is accepted, by the branches that tell it, and its reply. Assumes nothing.
-use mathlib.Core.Path.{_≡_, refl, sym, ap, subst, _∙_}
-use mathlib.Core.Bool.{Bool, true, false, cond, not, _&&_, _||_, true≢false}
-use Prim.Native.Nat.{ℕ, zero, suc, _≤_, _<_}
+use mathlib.Core.Path.{_≡_, refl, sym, _∙_}
+use mathlib.Core.Bool.{Bool, true, false, cond, _&&_, _||_}
+use Prim.Native.Nat.{ℕ, zero, suc, _≤_}
 use native.Mathlib.Omega.{arith}
 use borrow.Author.Tests.{eqb-true, eqb-false, ne-eqb, le-leb, lt-leb}
 use lib.Dec.{leb, eqb}
@@ -14,6 +14,7 @@ use Rattle.significand.specs.Steps.{rawOf}
 use Rattle.significand.specs.Call.{isSignificand, isParity, rawRefusal}
 use Rattle.significand.proofs.Accepted.{accepted, refused-answer, accepted-answer}
 use Rattle.raw.specs.Reply.{replyTo}
+use Rattle.raw.proofs.Answers.{reciprocal-answer, case-answer}
 
 -- ---- whether it is accepted
 
@@ -80,23 +81,24 @@ module _ (operation y p : ℕ) (a : Bool) (e : a ≡ eqb (rawRefusal operation y
     unrefused = eqb-true (rawRefusal operation y p) 0 (sym e ∙ taken)
 
     -- what the work asks
+    operand-of : Operand k32 t32 (opOf operation) y p
+    operand-of = accepted operation y p unrefused
+
     pub significand-of : Significand k32 t32 y
-    significand-of = accepted operation y p unrefused .significand
+    significand-of = operand-of .significand
 
     pub parity-of : p ≤ 1
-    parity-of = accepted operation y p unrefused .parity
+    parity-of = operand-of .parity
 
     module _ (op : Op) (named : op ≡ opOf operation) (g : ℕ) where
       answered : g ≡ rawOf k32 t32 op y p → record { refusal = 0; answer = g } ≡ replyTo operation y p
       answered f = cc (accepted-answer operation y p unrefused, unrefused)
 
       pub reciprocal-answered : op ≡ Reciprocal → g ≡ rawOf k32 t32 Reciprocal y 0 → record { refusal = 0; answer = g } ≡ replyTo operation y p
-      reciprocal-answered o f =
-          let even : p ≡ 0 = accepted operation y p unrefused .even (sym named ∙ o) in
-          answered (rw (o, even) f)
+      reciprocal-answered o f = answered (reciprocal-answer op y p g o (rw named operand-of) f)
 
-      pub root-answered : (case : Op) → op ≡ case → g ≡ rawOf k32 t32 case y p → record { refusal = 0; answer = g } ≡ replyTo operation y p
-      root-answered case o f = answered (rw o f)
+      pub case-answered : (case : Op) → op ≡ case → g ≡ rawOf k32 t32 case y p → record { refusal = 0; answer = g } ≡ replyTo operation y p
+      case-answered case o f = answered (case-answer op y p g case o f)
 
   pub refused : a ≡ false → (n : ℕ) → n ≡ rawRefusal operation y p → record { refusal = n; answer = 0 } ≡ replyTo operation y p
   refused left n f = cc (refused-answer operation y p (eqb-false (rawRefusal operation y p) 0 (sym e ∙ left)), f)

@@ -7,7 +7,7 @@ use native.Mathlib.Omega.{arith}
 use lib.IntN.{ℤ, pos, subℕ, _+ℤ_, _-ℤ_, _*ℤ_}
 use Rattle.kinds.specs.declared.Op.{Op}
 use Rattle.kinds.specs.declared.Op.the-variants.{Reciprocal, Root, InverseRoot}
-use Rattle.numbers.proofs.Differences.{diff-eq, diff-add, pos-less, less-diff, diff-less}
+use Rattle.numbers.proofs.Differences.{diff-eq, diff-add, pos-less, less-diff}
 use Rattle.significand.specs.Steps.{unit, sumOver}
 use Rattle.significand.proofs.Sums.{times-unit, added, taken, difference}
 

@@ -3,7 +3,7 @@
 use mathlib.Core.Path.{_≡_, sym, subst}
 use mathlib.Core.Bool.{Bool, true}
 use mathlib.Core.List.{List, [], _∷_}
-use Prim.Native.Nat.{ℕ, suc, _+_, _≤_, _<_, zero-le}
+use Prim.Native.Nat.{ℕ, suc, _+_, _≤_, _<_}
 use native.Mathlib.Omega.{arith}
 use mir.Facts.{and-yes}
 use mir.Syntax.{Body, Arms, Rv, Opd, arm, default, noDefault, skip, seq, assign, block, loop, cond, switch, exit, return, call}
@@ -88,9 +88,11 @@ module _ {A : Type 0} (Q : A → Type 0) (test : ℕ → A → Bool) (i : ℕ) (
             (λ n. let l = low (n .0) in let d : i ≡ k → ⊥ = n .1 in omega arith) (omega arith) (b .1),
       )
 
--- what the match of a table function asks: its contract P of the entry at i, which the test there tells, the keys counting up from 0
-pub looked-up : {A : Type 0} (P : A → Type 0) (test : ℕ → A → Bool) (i : ℕ) → ((v : A) → T (test i v) → P v) → (vs : List A) → i < length vs
-    → T (every test 0 vs)
-    → Asked (λ (v : A). (Unit {0} × Unit {0}) × P v) i 0 vs (Unit {0})
-looked-up {A} P test i told vs high t =
-    answered (λ (v : A). (Unit {0} × Unit {0}) × P v) test i (λ v p. ((tt, tt), told v p)) 0 vs (Unit {0}) (λ l. zero-le) (omega arith) t
+-- what the match of a table function asks: its contract P of the entry at i, which the test there tells, the keys counting up from k
+pub looked-up : {A : Type 0} (P : A → Type 0) (test : ℕ → A → Bool) (k i : ℕ) → ((v : A) → T (test i v) → P v) → (vs : List A)
+    → k ≤ i
+    → i < k + length vs
+    → T (every test k vs)
+    → Asked (λ (v : A). (Unit {0} × Unit {0}) × P v) i k vs (Unit {0})
+looked-up {A} P test k i told vs low high t =
+    answered (λ (v : A). (Unit {0} × Unit {0}) × P v) test i (λ v p. ((tt, tt), told v p)) k vs (Unit {0}) (λ l. low) high t

@@ -15,4 +15,4 @@ row-spec =
     (λ 𝓤 H A W 𝓣.
     t-fn-plain 𝓤 H A W 𝓣 0 lts.ps lts.r lts.xs lts.m lts.hs lts.body (λ κs qs bs. lts.Φ reads.Pre reads.Post)
     (λ κs qs bs bd. lts.typed reads.Pre reads.Post κs qs 𝓤 H A W 𝓣 bs bd) reads.Pre reads.Post
-    (λ κs qs a good pre bs. row-looked-up InverseRoot inverseRootTest inverse-root-entry (a .0) (table row lts.body) pre tt))
+    (λ κs qs a good pre bs. row-looked-up InverseRoot inverseRootTest inverse-root-entry (a .0) (table row lts.body) (pre .0) (pre .1) tt))

@@ -1,6 +1,6 @@
 -- `raw::call` meets its contract: the answer, or the first "no". Assumes nothing.
 use borrow.Author.Needs.{needs}
-use Rattle.raw.proofs.Replies.{significand-of, parity-of, reciprocal-answered, root-answered, refused}
+use Rattle.raw.proofs.Replies.{significand-of, parity-of, reciprocal-answered, case-answered, refused}
 use Rattle.raw.proofs.call.Statement.{statement}
 use Rattle.raw.proofs.call.Tie as tie
 
@@ -32,10 +32,10 @@ returns : tie.Need-returns
 returns c = search reciprocal-answered
 
 returns-2 : tie.Need-returns-2
-returns-2 c = search root-answered
+returns-2 c = search case-answered
 
 returns-3 : tie.Need-returns-3
-returns-3 c = search root-answered
+returns-3 c = search case-answered
 
 refusal-requires : tie.Need-refusal-requires
 refusal-requires c κs = search needs
