@@ -1,21 +1,21 @@
 // The binary32 unit: reciprocal, root and inverse root of a pattern, correctly rounded, with flags.
 mod estimate;
+mod normal;
 
 ghost use mathlib.Core.Path.{_≡_};
 ghost use Prim.Native.Nat.{_+_, _*_, _^_, _<_};
 ghost use Rattle.ieee.specs.Format.{binary32};
-ghost use Rattle.kinds.specs.declared.Op.the-variants.{Root};
+ghost use Rattle.kinds.specs.declared.Op.the-variants.{Reciprocal, Root, InverseRoot};
 ghost use Rattle.ieee.specs.Answer.{answerOf, toFinite};
 ghost use Rattle.ieee.specs.Call.{binary32Refusal};
 ghost use Rattle.pattern.specs.Answer.{Answered};
 ghost use Rattle.pattern.specs.Operand.{Ordinary};
 ghost use Rattle.pattern.specs.Parts.{FieldsOf};
 ghost use Rattle.binary32.specs.Answer.{roundedAnswer, Packed, unpackedFrom};
-ghost use Rattle.binary32.specs.Normal.{hasNormalResult, NormalScale};
+ghost use Rattle.binary32.specs.Normal.{isPlain};
 ghost use Rattle.binary32.specs.Reply.{replyTo};
 use estimate::estimate_of;
 use floors::floor_of;
-use floors::taken::taken_of;
 use kinds::Mode;
 use kinds::Op;
 use kinds::ask;
@@ -23,15 +23,13 @@ use kinds::joined;
 use neighbour::lower;
 use pattern::Width;
 use pattern::operand::scale;
-use pattern::operand::scale_normal;
 use pattern::parts::Parts;
 use pattern::parts::fields;
-use rounding::normal::normal_answer;
 use rounding::round;
 use special::is_special;
 use special::special;
 
-// The least normal pattern, and infinity's.
+// The patterns of the least normal number and of infinity; those above the latter are NaNs and negative.
 const LEAST_NORMAL: u32 = 0x80_0000;
 
 const INFINITY: u32 = 0x7F80_0000;
@@ -62,7 +60,7 @@ pub fn call(operation: u8, rounding: u8, bits: u32, status: u8) -> Reply
             status,
         };
     }
-    let rounded = answer_by(Op::of(operation), Mode::of(rounding), bits);
+    let rounded = answer(Op::of(operation), Mode::of(rounding), bits);
     Reply {
         refusal,
         bits: rounded.bits,
@@ -79,71 +77,67 @@ fn refusal(operation: u8, rounding: u8) -> u8
     ask(known, 1, second)
 }
 
-// The answer of an operation, each compiled for itself.
-fn answer_by(op: Op, mode: Mode, bits: u32) -> Rounded
-    ensures { λ r. ⌜ r ≡ roundedAnswer (answerOf binary32 op mode bits) ⌝ }
-{
-    match op {
-        Op::Reciprocal => answer(Op::Reciprocal, mode, bits),
-        Op::Root => answer(Op::Root, mode, bits),
-        Op::InverseRoot => answer(Op::InverseRoot, mode, bits),
-    }
-}
-
-// A normal result is worked out here, and any other apart.
+// The answer of an operation. Where the operand and the result are normal numbers it is worked out the short way, of which each operation
+// has its own, and else apart.
 fn answer(op: Op, mode: Mode, bits: u32) -> Rounded
     ensures { λ r. ⌜ r ≡ roundedAnswer (answerOf binary32 op mode bits) ⌝ }
 {
-    let x = fields(Width::Binary32, bits as u64);
-    if has_normal_result(op, bits, x.exponent) {
-        let r = normal(op, mode, x);
-        return Rounded {
-            bits: r.bits as u32,
-            flags: r.flags,
-        };
+    match op {
+        Op::Reciprocal => reciprocal(mode, bits),
+        Op::Root => root(mode, bits),
+        Op::InverseRoot => inverse_root(mode, bits),
     }
-    unpacked(apart(op, mode, bits))
 }
 
-// Whether the result is a normal number, whatever the rounding.
-fn has_normal_result(op: Op, bits: u32, exponent: u64) -> bool
-    ensures { λ r. ⌜ r ≡ hasNormalResult op bits exponent ⌝ }
+fn reciprocal(mode: Mode, bits: u32) -> Rounded
+    ensures { λ r. ⌜ r ≡ roundedAnswer (answerOf binary32 Reciprocal mode bits) ⌝ }
+{
+    let x = fields(Width::Binary32, bits as u64);
+    if !is_plain(Op::Reciprocal, bits, x.exponent) {
+        return unpacked(apart(Op::Reciprocal, mode, bits));
+    }
+    narrowed(normal::reciprocal(mode, x))
+}
+
+fn root(mode: Mode, bits: u32) -> Rounded
+    ensures { λ r. ⌜ r ≡ roundedAnswer (answerOf binary32 Root mode bits) ⌝ }
+{
+    let x = fields(Width::Binary32, bits as u64);
+    if !is_plain(Op::Root, bits, x.exponent) {
+        return unpacked(apart(Op::Root, mode, bits));
+    }
+    narrowed(normal::root(mode, x))
+}
+
+fn inverse_root(mode: Mode, bits: u32) -> Rounded
+    ensures { λ r. ⌜ r ≡ roundedAnswer (answerOf binary32 InverseRoot mode bits) ⌝ }
+{
+    let x = fields(Width::Binary32, bits as u64);
+    if !is_plain(Op::InverseRoot, bits, x.exponent) {
+        return unpacked(apart(Op::InverseRoot, mode, bits));
+    }
+    narrowed(normal::inverse_root(mode, x))
+}
+
+// Whether the operand is a normal number and its result too, whatever the rounding.
+fn is_plain(op: Op, bits: u32, exponent: u64) -> bool
+    ensures { λ r. ⌜ r ≡ isPlain op bits exponent ⌝ }
 {
     match op {
         Op::Reciprocal => (1 <= exponent) & (exponent <= 252),
-        Op::Root => is_positive_normal(bits),
-        Op::InverseRoot => is_positive_normal(bits),
+        Op::Root => (LEAST_NORMAL <= bits) & (bits < INFINITY),
+        Op::InverseRoot => (LEAST_NORMAL <= bits) & (bits < INFINITY),
     }
 }
 
-fn is_positive_normal(bits: u32) -> bool
-    ensures { λ r. ⌜ r ≡ hasNormalResult Root bits 0 ⌝ }
+fn narrowed(r: pattern::answer::Rounded) -> Rounded
+    requires { ⌜ r .bits < 2 ^ 32 ⌝ }
+    ensures { λ n. ⌜ n ≡ record { bits = r .bits; flags = r .flags } ⌝ }
 {
-    (LEAST_NORMAL <= bits) & (bits < INFINITY)
-}
-
-// A normal result of a normal operand.
-fn normal(op: Op, mode: Mode, x: Parts) -> pattern::answer::Rounded
-    requires { ⌜ Ordinary binary32 (x .unsigned) × FieldsOf binary32 x × (x .sign < 2) × (0 < x .exponent) × NormalScale op (x .exponent) ⌝ }
-    ensures { λ r. ⌜ Answered binary32 (toFinite binary32 op mode (x .sign) (x .unsigned)) r ⌝ }
-{
-    let s = scale_normal(Width::Binary32, x);
-    let e = estimate_of(op, s);
-    let t = taken_of(
-        op,
-        mode,
-        x.sign == 1,
-        s.significand,
-        e.scales.parity,
-        e.answer,
-    );
-    normal_answer(
-        Width::Binary32,
-        x.sign,
-        e.scales.scale,
-        t.significand,
-        t.more,
-    )
+    Rounded {
+        bits: r.bits as u32,
+        flags: r.flags,
+    }
 }
 
 // The answer to any pattern, in one number: the flags above the bits.

@@ -158,11 +158,7 @@ module _ (y g rest : ℕ) (Y : Significand k32 t32 y) (few : rest ≤ 2) where
         (omega arith) (omega arith) in
         record { floor = _; floored = F; is = tested InverseRoot y p g rest Y parity b few _ _ _ F told }
 
--- by the case of the operation or of the rounding
-module _ (op case : Op) (o : op ≡ case) where
-  pub taken-case : (y p rest : ℕ) (r : Taken) → TakenOf case y (targetOf m32 case y p) rest r → TakenOf op y (targetOf m32 op y p) rest r
-  taken-case y p rest r h = rw o h
-
+-- by the case of the rounding
 module _ (op : Op) (y x : ℕ) (mode : Mode) (negative : Bool) (r : Taken) where
   pub rest-nearest : mode ≡ Nearest → TakenOf op y x 1 r → TakenOf op y x (restOf mode negative) r
   unfolding restOf
@@ -188,28 +184,41 @@ module _ (op : Op) (y x : ℕ) (mode : Mode) (negative : Bool) (r : Taken) where
   pub rest-down : (n : ℕ) → mode ≡ Down → n ≡ cond (not negative) 2 0 → TakenOf op y x n r → TakenOf op y x (restOf mode negative) r
   rest-down n o e h = rw (o, ← down-is negative, ← e) h
 
+-- of a number that is not negative
+pub rest-above : (op : Op) (y x : ℕ) (mode : Mode) (r : Taken) → mode ≡ Up → TakenOf op y x 0 r → TakenOf op y x (restOf mode false) r
+unfolding restOf
+rest-above op y x mode r o h = rw o h
+
+pub rest-below : (op : Op) (y x : ℕ) (mode : Mode) (r : Taken) → mode ≡ Down → TakenOf op y x 2 r → TakenOf op y x (restOf mode false) r
+unfolding restOf
+rest-below op y x mode r o h = rw o h
+
 -- the root's, from its floor
 pub root-taken-is : (y x rest n : ℕ) (f : Floor) → Floored Root y x (f .quotient) (f .more) → n ≡ takenBy rest (f .quotient) (f .more)
     → TakenOf Root y x rest (record { significand = n; more = f .more })
 root-taken-is y x rest n f F e = record { floor = f .quotient; floored = F; is = e }
 
--- by the case of the rest
-module _ (rest q : ℕ) (more : Bool) where
-  pub taken-away : rest ≡ 0 → (q + 1 + boolByte more) / 2 ≡ takenBy rest q more
-  unfolding takenBy
-  taken-away e = rw e (go more)
+-- which is not negative
+module _ (mode : Mode) (q : ℕ) (more : Bool) where
+  pub root-nearest : mode ≡ Nearest → (q + 1) / 2 ≡ takenBy (restOf mode false) q more
+  unfolding takenBy restOf
+  root-nearest o = rw o
+
+  pub root-up : mode ≡ Up → (q + 1 + boolByte more) / 2 ≡ takenBy (restOf mode false) q more
+  unfolding takenBy restOf
+  root-up o = rw o (go more)
     where
       go : (b : Bool) → (q + 1 + boolByte b) / 2 ≡ (q + 1 + cond b 1 0) / 2
       go true = refl
       go false = refl
 
-  pub taken-nearest : rest ≡ 1 → (q + 1) / 2 ≡ takenBy rest q more
-  unfolding takenBy
-  taken-nearest e = rw e
+  pub root-down : mode ≡ Down → q / 2 ≡ takenBy (restOf mode false) q more
+  unfolding takenBy restOf
+  root-down o = rw o
 
-  pub taken-toward : rest ≤ 2 → (rest ≡ 0 → ⊥) → (rest ≡ 1 → ⊥) → q / 2 ≡ takenBy rest q more
-  unfolding takenBy
-  taken-toward few a b = let e : rest ≡ 2 = omega (arith, a, b) in rw e
+  pub root-zero : mode ≡ TowardZero → q / 2 ≡ takenBy (restOf mode false) q more
+  unfolding takenBy restOf
+  root-zero o = rw o
 
 -- a comparison counts at most once
 pub bit-most : (b : Bool) → boolByte b ≤ 1

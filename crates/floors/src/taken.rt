@@ -1,11 +1,11 @@
 // The significand that a rounding takes of a normal result, from a raw answer at k = 7. It is t or t + 1, and one test tells which: of the
 // exact result beside m = 2t + rest, which is t, t + 1/2 or t + 1 by what the rounding leaves of the way between two neighbours, in halves.
 ghost use mathlib.Core.Path.{_≡_};
-ghost use mathlib.Core.Bool.{cond};
+ghost use mathlib.Core.Bool.{false, cond};
 ghost use Prim.Native.Nat.{_^_, _≤_, _<_};
 ghost use Rattle.kinds.specs.declared.Op.the-variants.{Reciprocal, Root, InverseRoot};
 ghost use Rattle.kinds.specs.Guard.{restOf};
-ghost use Rattle.significand.specs.Width.{k32, t32, Significand, Operand};
+ghost use Rattle.significand.specs.Width.{k32, t32, Significand};
 ghost use Rattle.significand.specs.Distance.{Between};
 ghost use Rattle.ieee.specs.Floor.{targetOf, takenBy};
 ghost use Rattle.floors.specs.Taken.{TakenOf};
@@ -14,7 +14,6 @@ use crate::LEAST_SIGNIFICAND;
 use crate::WHOLE;
 use crate::root;
 use kinds::Mode;
-use kinds::Op;
 use std::num::wrapping_sub_u64;
 use wide::low_product;
 
@@ -24,19 +23,6 @@ pub struct Taken {
     pub more: bool,
 }
 
-// Each rounding has its own rest.
-pub fn taken_of(op: Op, mode: Mode, negative: bool, y: u64, p: u64, g: u64) -> Taken
-    requires { ⌜ Operand k32 t32 op y p × (g < 2 ^ 32) × Between op k32 t32 y p g ⌝ }
-    ensures { λ r. ⌜ TakenOf op y (targetOf 23 op y p) (restOf mode negative) r ⌝ }
-{
-    match mode {
-        Mode::Nearest => taken_with(op, 1, y, p, g),
-        Mode::Up => taken_with(op, rest_if(negative), y, p, g),
-        Mode::Down => taken_with(op, rest_if(!negative), y, p, g),
-        Mode::TowardZero => taken_with(op, 2, y, p, g),
-    }
-}
-
 // 2 toward zero, 0 away from it.
 fn rest_if(inward: bool) -> u64
     ensures { λ r. ⌜ (r ≡ cond inward 2 0) × (r ≤ 2) ⌝ }
@@ -44,19 +30,20 @@ fn rest_if(inward: bool) -> u64
     if inward { 2 } else { 0 }
 }
 
-fn taken_with(op: Op, rest: u64, y: u64, p: u64, g: u64) -> Taken
-    requires { ⌜ rest ≤ 2 ⌝ }
-    requires { ⌜ Operand k32 t32 op y p × (g < 2 ^ 32) × Between op k32 t32 y p g ⌝ }
-    ensures { λ r. ⌜ TakenOf op y (targetOf 23 op y p) rest r ⌝ }
+// The reciprocal's, each rounding by its own rest.
+pub fn reciprocal_taken(mode: Mode, negative: bool, y: u64, g: u64) -> Taken
+    requires { ⌜ Significand k32 t32 y × (g < 2 ^ 32) × Between Reciprocal k32 t32 y 0 g ⌝ }
+    ensures { λ r. ⌜ TakenOf Reciprocal y (targetOf 23 Reciprocal y 0) (restOf mode negative) r ⌝ }
 {
-    match op {
-        Op::Reciprocal => reciprocal_taken(rest, y, g),
-        Op::Root => root_taken(rest, y, p, g),
-        Op::InverseRoot => inverse_root_taken(rest, y, p, g),
+    match mode {
+        Mode::Nearest => reciprocal_with(1, y, g),
+        Mode::Up => reciprocal_with(rest_if(negative), y, g),
+        Mode::Down => reciprocal_with(rest_if(!negative), y, g),
+        Mode::TowardZero => reciprocal_with(2, y, g),
     }
 }
 
-fn reciprocal_taken(rest: u64, y: u64, g: u64) -> Taken
+fn reciprocal_with(rest: u64, y: u64, g: u64) -> Taken
     requires { ⌜ rest ≤ 2 ⌝ }
     requires { ⌜ Significand k32 t32 y × (g < 2 ^ 32) × Between Reciprocal k32 t32 y 0 g ⌝ }
     ensures { λ r. ⌜ TakenOf Reciprocal y (targetOf 23 Reciprocal y 0) rest r ⌝ }
@@ -70,31 +57,45 @@ fn reciprocal_taken(rest: u64, y: u64, g: u64) -> Taken
     }
 }
 
-// The root has its floor at once, and with it whether something lies above.
-fn root_taken(rest: u64, y: u64, p: u64, g: u64) -> Taken
-    requires { ⌜ rest ≤ 2 ⌝ }
+// The root's, which has its floor at once, and with it whether something lies above. No root is negative.
+pub fn root_taken(mode: Mode, y: u64, p: u64, g: u64) -> Taken
     requires { ⌜ Significand k32 t32 y × (p ≤ 1) × (g < 2 ^ 32) × Between Root k32 t32 y p g ⌝ }
-    ensures { λ r. ⌜ TakenOf Root y (targetOf 23 Root y p) rest r ⌝ }
+    ensures { λ r. ⌜ TakenOf Root y (targetOf 23 Root y p) (restOf mode false) r ⌝ }
 {
     let f = root(y, p, g);
     Taken {
-        significand: taken_by(rest, f.quotient, f.more),
+        significand: root_by(mode, f.quotient, f.more),
         more: f.more,
     }
 }
 
-fn taken_by(rest: u64, q: u64, more: bool) -> u64
-    requires { ⌜ (rest ≤ 2) × (q < 2 ^ 63) ⌝ }
-    ensures { λ r. ⌜ r ≡ takenBy rest q more ⌝ }
+fn root_by(mode: Mode, q: u64, more: bool) -> u64
+    requires { ⌜ q < 2 ^ 63 ⌝ }
+    ensures { λ r. ⌜ r ≡ takenBy (restOf mode false) q more ⌝ }
 {
-    if rest == 0 {
-        return (q + 1 + more as u64) / 2;
+    match mode {
+        Mode::Nearest => (q + 1) / 2,
+        Mode::Up => (q + 1 + more as u64) / 2,
+        Mode::Down => q / 2,
+        Mode::TowardZero => q / 2,
     }
-    if rest == 1 { (q + 1) / 2 } else { q / 2 }
+}
+
+// The inverse root's, each rounding by its own rest.
+pub fn inverse_root_taken(mode: Mode, y: u64, p: u64, g: u64) -> Taken
+    requires { ⌜ Significand k32 t32 y × (p ≤ 1) × (g < 2 ^ 32) × Between InverseRoot k32 t32 y p g ⌝ }
+    ensures { λ r. ⌜ TakenOf InverseRoot y (targetOf 23 InverseRoot y p) (restOf mode false) r ⌝ }
+{
+    match mode {
+        Mode::Nearest => inverse_root_with(1, y, p, g),
+        Mode::Up => inverse_root_with(0, y, p, g),
+        Mode::Down => inverse_root_with(2, y, p, g),
+        Mode::TowardZero => inverse_root_with(2, y, p, g),
+    }
 }
 
 // The target is 0 modulo 2^64, and no side is half of that away.
-fn inverse_root_taken(rest: u64, y: u64, p: u64, g: u64) -> Taken
+fn inverse_root_with(rest: u64, y: u64, p: u64, g: u64) -> Taken
     requires { ⌜ rest ≤ 2 ⌝ }
     requires { ⌜ Significand k32 t32 y × (p ≤ 1) × (g < 2 ^ 32) × Between InverseRoot k32 t32 y p g ⌝ }
     ensures { λ r. ⌜ TakenOf InverseRoot y (targetOf 23 InverseRoot y p) rest r ⌝ }

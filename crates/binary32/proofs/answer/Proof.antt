@@ -1,42 +1,46 @@
--- `binary32::answer` meets its contract: a normal result is worked out the short way, and any other apart. Assumes nothing.
-use Rattle.binary32.proofs.Results.{plain-ordinary, plain-some, plain-scale, plain-answered, narrowed, unpacked-is}
+-- `binary32::answer` meets its contract: each operation has its own function. Assumes nothing.
+use Rattle.binary32.proofs.Results.{answer-case}
 use borrow.Author.Needs.{needs}
 use Rattle.binary32.proofs.answer.Statement.{statement}
 use Rattle.binary32.proofs.answer.Tie as tie
 
-fields-requires : tie.Need-fields-requires
-fields-requires c κs = search needs
+enum-told : tie.Need-enum-told
+enum-told c = search needs
 
-has-normal-result-requires : tie.Need-has-normal-result-requires
-has-normal-result-requires c κs = search needs
+reciprocal-requires : tie.Need-reciprocal-requires
+reciprocal-requires c κs = search needs
 
-normal-requires : tie.Need-normal-requires
-normal-requires c κs = (search plain-ordinary, search needs, search needs, search plain-some, search plain-scale)
+enum-told-2 : tie.Need-enum-told-2
+enum-told-2 c = search needs
 
-cast-t9 : tie.Need-cast-t9
-cast-t9 c = search needs
+root-requires : tie.Need-root-requires
+root-requires c κs = search needs
+
+enum-told-3 : tie.Need-enum-told-3
+enum-told-3 c = search needs
+
+inverse-root-requires : tie.Need-inverse-root-requires
+inverse-root-requires c κs = search needs
 
 returns : tie.Need-returns
-returns c = search (narrowed, plain-answered)
-
-apart-requires : tie.Need-apart-requires
-apart-requires c κs = search needs
-
-unpacked-requires : tie.Need-unpacked-requires
-unpacked-requires c κs = search needs
+returns c = search answer-case
 
 returns-2 : tie.Need-returns-2
-returns-2 c = search unpacked-is
+returns-2 c = search answer-case
+
+returns-3 : tie.Need-returns-3
+returns-3 c = search answer-case
 
 pub answer-spec : {M : Type 1} → statement M
 answer-spec =
     tie.close
     (tie.spec
-    fields-requires
-    has-normal-result-requires
-    normal-requires
-    cast-t9
+    enum-told
+    reciprocal-requires
+    enum-told-2
+    root-requires
+    enum-told-3
+    inverse-root-requires
     returns
-    apart-requires
-    unpacked-requires
-    returns-2)
+    returns-2
+    returns-3)

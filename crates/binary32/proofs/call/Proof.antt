@@ -16,8 +16,8 @@ of-requires c κs = search needs
 of-requires-2 : tie.Need-of-requires-2
 of-requires-2 c κs = search needs
 
-answer-by-requires : tie.Need-answer-by-requires
-answer-by-requires c κs = search needs
+answer-requires : tie.Need-answer-requires
+answer-requires c κs = search needs
 
 joined-requires : tie.Need-joined-requires
 joined-requires c κs = search needs
@@ -33,6 +33,6 @@ call-spec =
     returns
     of-requires
     of-requires-2
-    answer-by-requires
+    answer-requires
     joined-requires
     returns-2)

@@ -1,57 +1,58 @@
--- `floors::taken::inverse_root_taken` meets its contract: the significand is t or t + 1. Assumes nothing.
-use native.Mathlib.Omega.{arith}
-use lib.Dec.{leb}
-use Rattle.kinds.specs.declared.Op.the-variants.{InverseRoot}
-use Rattle.floors.proofs.Tested.{answer-large, bit-most, inverse-square, inverse-taken-is}
+-- `floors::taken::inverse_root_taken` meets its contract: each rounding has its own rest. Assumes nothing.
+use Rattle.floors.proofs.Tested.{rest-nearest, rest-above, rest-below, rest-zero}
 use borrow.Author.Needs.{needs}
 use Rattle.floors.proofs.taken.inverse_root_taken.Statement.{statement}
 use Rattle.floors.proofs.taken.inverse_root_taken.Tie as tie
 
-add-t : tie.Need-add-t
-add-t c = search needs
+enum-told : tie.Need-enum-told
+enum-told c = search needs
 
-mul-t : tie.Need-mul-t
-mul-t c = search needs
+inverse-root-with-requires : tie.Need-inverse-root-with-requires
+inverse-root-with-requires c κs = search needs
 
-sub-t : tie.Need-sub-t
-sub-t c = omega (arith, answer-large InverseRoot (c .args .y) (c .args .p) (c .args .g) (c .args .rest) (c .pre .1 .0) (c .pre .1 .1) (c .pre .1 .3) (c .pre .0))
+enum-told-2 : tie.Need-enum-told-2
+enum-told-2 c = search needs
 
-mul-m : tie.Need-mul-m
-mul-m c = search needs
+inverse-root-with-requires-2 : tie.Need-inverse-root-with-requires-2
+inverse-root-with-requires-2 c κs = search needs
 
-add-m : tie.Need-add-m
-add-m c = search needs
+enum-told-3 : tie.Need-enum-told-3
+enum-told-3 c = search needs
 
-mul-low-product : tie.Need-mul-low-product
-mul-low-product c = record { fits = inverse-square (c .args .y) (c .args .g) (c .args .rest) (c .pre .1 .0) (c .pre .0) (c .args .p) (c .pre .1 .1) (c .pre .1 .3) }
+inverse-root-with-requires-3 : tie.Need-inverse-root-with-requires-3
+inverse-root-with-requires-3 c κs = search needs
 
-low-product-requires : tie.Need-low-product-requires
-low-product-requires c κs = search needs
+enum-told-4 : tie.Need-enum-told-4
+enum-told-4 c = search needs
 
-wrapping-sub-u64-requires : tie.Need-wrapping-sub-u64-requires
-wrapping-sub-u64-requires c κs = search needs
-
-cast-next : tie.Need-cast-next
-cast-next c = search needs
-
-add-t10 : tie.Need-add-t10
-add-t10 c = omega (arith, bit-most (leb 9223372036854775808 (c .wrapping-sub-u64 .result)))
+inverse-root-with-requires-4 : tie.Need-inverse-root-with-requires-4
+inverse-root-with-requires-4 c κs = search needs
 
 returns : tie.Need-returns
-returns c = search inverse-taken-is
+returns c = search rest-nearest
+
+returns-2 : tie.Need-returns-2
+returns-2 c = search rest-above
+
+returns-3 : tie.Need-returns-3
+returns-3 c = search rest-below
+
+returns-4 : tie.Need-returns-4
+returns-4 c = search rest-zero
 
 pub inverse-root-taken-spec : {M : Type 1} → statement M
 inverse-root-taken-spec =
     tie.close
     (tie.spec
-    add-t
-    mul-t
-    sub-t
-    mul-m
-    add-m
-    mul-low-product
-    low-product-requires
-    wrapping-sub-u64-requires
-    cast-next
-    add-t10
-    returns)
+    enum-told
+    inverse-root-with-requires
+    enum-told-2
+    inverse-root-with-requires-2
+    enum-told-3
+    inverse-root-with-requires-3
+    enum-told-4
+    inverse-root-with-requires-4
+    returns
+    returns-2
+    returns-3
+    returns-4)

@@ -1,43 +1,66 @@
--- `floors::taken::reciprocal_taken` meets its contract: the significand is t or t + 1. Assumes nothing.
-use Prim.Native.Nat.{_+_, _*_, _/_, _^_}
-use native.Mathlib.Omega.{arith}
-use lib.Dec.{ltb}
-use Rattle.kinds.specs.declared.Op.the-variants.{Reciprocal}
-use Rattle.floors.proofs.Tested.{startOf, bit-most, reciprocal-product, reciprocal-taken-is}
+-- `floors::taken::reciprocal_taken` meets its contract: each rounding has its own rest. Assumes nothing.
+use Rattle.floors.proofs.Tested.{rest-nearest, rest-up, rest-down, rest-zero}
 use borrow.Author.Needs.{needs}
 use Rattle.floors.proofs.taken.reciprocal_taken.Statement.{statement}
 use Rattle.floors.proofs.taken.reciprocal_taken.Tie as tie
 
-add-t : tie.Need-add-t
-add-t c = search needs
+enum-told : tie.Need-enum-told
+enum-told c = search needs
 
-mul-t : tie.Need-mul-t
-mul-t c = search needs
+reciprocal-with-requires : tie.Need-reciprocal-with-requires
+reciprocal-with-requires c κs = search needs
 
-sub-t : tie.Need-sub-t
-sub-t c = search needs
+enum-told-2 : tie.Need-enum-told-2
+enum-told-2 c = search needs
 
-mul-m : tie.Need-mul-m
-mul-m c = search needs
+rest-if-requires : tie.Need-rest-if-requires
+rest-if-requires c κs = search needs
 
-add-m : tie.Need-add-m
-add-m c = search needs
+reciprocal-with-requires-2 : tie.Need-reciprocal-with-requires-2
+reciprocal-with-requires-2 c κs = search needs
 
-mul-next : tie.Need-mul-next
-mul-next c = record { fits = reciprocal-product (c .args .y) (c .args .g) (c .args .rest) (c .pre .1 .0) (c .pre .0) (c .pre .1 .2) }
+enum-told-3 : tie.Need-enum-told-3
+enum-told-3 c = search needs
 
-add-next : tie.Need-add-next
-add-next c = search needs
+rest-if-requires-2 : tie.Need-rest-if-requires-2
+rest-if-requires-2 c κs = search needs
 
-cast-next : tie.Need-cast-next
-cast-next c = search needs
+reciprocal-with-requires-3 : tie.Need-reciprocal-with-requires-3
+reciprocal-with-requires-3 c κs = search needs
 
-add-t9 : tie.Need-add-t9
-add-t9 c = let t = startOf Reciprocal (c .args .rest) (c .args .g) in omega (arith, bit-most (ltb (c .args .y * (2 * t + c .args .rest)) (2 ^ 48 + c .args .rest / 2)))
+enum-told-4 : tie.Need-enum-told-4
+enum-told-4 c = search needs
+
+reciprocal-with-requires-4 : tie.Need-reciprocal-with-requires-4
+reciprocal-with-requires-4 c κs = search needs
 
 returns : tie.Need-returns
-returns c = search reciprocal-taken-is
+returns c = search rest-nearest
+
+returns-2 : tie.Need-returns-2
+returns-2 c = search rest-up
+
+returns-3 : tie.Need-returns-3
+returns-3 c = search rest-down
+
+returns-4 : tie.Need-returns-4
+returns-4 c = search rest-zero
 
 pub reciprocal-taken-spec : {M : Type 1} → statement M
 reciprocal-taken-spec =
-    tie.close (tie.spec add-t mul-t sub-t mul-m add-m mul-next add-next cast-next add-t9 returns)
+    tie.close
+    (tie.spec
+    enum-told
+    reciprocal-with-requires
+    enum-told-2
+    rest-if-requires
+    reciprocal-with-requires-2
+    enum-told-3
+    rest-if-requires-2
+    reciprocal-with-requires-3
+    enum-told-4
+    reciprocal-with-requires-4
+    returns
+    returns-2
+    returns-3
+    returns-4)

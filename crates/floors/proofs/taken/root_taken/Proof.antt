@@ -8,11 +8,11 @@ use Rattle.floors.proofs.taken.root_taken.Tie as tie
 root-requires : tie.Need-root-requires
 root-requires c κs = search needs
 
-taken-by-requires : tie.Need-taken-by-requires
-taken-by-requires c κs = (search needs, search root-floor-small)
+root-by-requires : tie.Need-root-by-requires
+root-by-requires c κs = search root-floor-small
 
 returns : tie.Need-returns
 returns c = search needs
 
 pub root-taken-spec : {M : Type 1} → statement M
-root-taken-spec = tie.close (tie.spec root-requires taken-by-requires returns)
+root-taken-spec = tie.close (tie.spec root-requires root-by-requires returns)
