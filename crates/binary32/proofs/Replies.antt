@@ -2,7 +2,6 @@
 use mathlib.Core.Path.{_≡_, sym, _∙_}
 use Prim.Native.Nat.{ℕ, _%_}
 use lib.Bits.{bitOr}
-use Rattle.kinds.specs.declared.Op.{Op}
 use Rattle.kinds.specs.declared.Mode.{Mode}
 use Rattle.kinds.specs.Operation.{opOf}
 use Rattle.kinds.specs.Rounding.{modeOf}
@@ -20,17 +19,16 @@ module _ (operation rounding b status n : ℕ) (e : n ≡ binary32Refusal operat
   refused h =
       rw (← e, refused-bits binary32 n (opOf operation) (modeOf rounding) b h, refused-status binary32 n (opOf operation) (modeOf rounding) b h status)
 
-  pub answered : (op : Op) (mode : Mode) (r : Rounded) (s : ℕ) → n ≡ 0 → op ≡ opOf operation → mode ≡ modeOf rounding
-      → r ≡ roundedAnswer (answerOf binary32 op mode b) → s ≡ bitOr (status % 32) (r .flags % 32)
+  pub answered : (mode : Mode) (r : Rounded) (s : ℕ) → n ≡ 0 → mode ≡ modeOf rounding
+      → r ≡ roundedAnswer (answerOf binary32 (opOf operation) mode b) → s ≡ bitOr (status % 32) (r .flags % 32)
       → record { refusal = n; bits = r .bits; status = s } ≡ replyTo operation rounding b status
-  answered op mode r s z p q f g =
+  answered mode r s z q f g =
       let yes : binary32Refusal operation rounding ≡ 0 = sym e ∙ z in
       rw (
         e,
         g,
-        status-joined binary32 _ (opOf operation) (modeOf rounding) b status (r .flags) yes (rw (f, p, q)),
+        status-joined binary32 _ (opOf operation) (modeOf rounding) b status (r .flags) yes (rw (f, q)),
         accepted-bits binary32 _ (opOf operation) (modeOf rounding) b yes,
         f,
-        p,
         q,
       )

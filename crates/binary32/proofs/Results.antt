@@ -117,9 +117,9 @@ module _ (op : Op) (x : Scaled) (r : Estimate) (e : EstimateOf op x r) where
           taken-answered (rw none h) (rw none ans)
 
 -- by the case of the operation
-pub answer-case : (op case : Op) (mode : Mode) (b : ℕ) (r : Narrow) → op ≡ case → r ≡ roundedAnswer (answerOf binary32 case mode b)
+pub answer-case : (op case : Op) (mode : Mode) (b : ℕ) (r : Narrow) → case ≡ op → r ≡ roundedAnswer (answerOf binary32 case mode b)
     → r ≡ roundedAnswer (answerOf binary32 op mode b)
-answer-case op case mode b r o e = rw o e
+answer-case op case mode b r o e = rw (← o) e
 
 -- the answer in 32 bits, in one number, and back from it
 module _ (a : Answer) (r : Rounded) (h : Answered binary32 a r) where

@@ -4,6 +4,7 @@ mod normal;
 
 ghost use mathlib.Core.Path.{_≡_};
 ghost use Prim.Native.Nat.{_+_, _*_, _^_, _<_};
+ghost use Rattle.kinds.specs.Operation.{opOf};
 ghost use Rattle.ieee.specs.Format.{binary32};
 ghost use Rattle.kinds.specs.declared.Op.the-variants.{Reciprocal, Root, InverseRoot};
 ghost use Rattle.ieee.specs.Answer.{answerOf, toFinite};
@@ -60,7 +61,7 @@ pub fn call(operation: u8, rounding: u8, bits: u32, status: u8) -> Reply
             status,
         };
     }
-    let rounded = answer(Op::of(operation), Mode::of(rounding), bits);
+    let rounded = answer(operation, Mode::of(rounding), bits);
     Reply {
         refusal,
         bits: rounded.bits,
@@ -77,15 +78,15 @@ fn refusal(operation: u8, rounding: u8) -> u8
     ask(known, 1, second)
 }
 
-// The answer of an operation. Where the operand and the result are normal numbers it is worked out the short way, of which each operation
-// has its own, and else apart.
-fn answer(op: Op, mode: Mode, bits: u32) -> Rounded
-    ensures { λ r. ⌜ r ≡ roundedAnswer (answerOf binary32 op mode bits) ⌝ }
+// The answer of an operation by its number, once question 1 is asked. Where the operand and the result are normal numbers it is worked out
+// the short way, of which each operation has its own, and else apart.
+fn answer(operation: u8, mode: Mode, bits: u32) -> Rounded
+    ensures { λ r. ⌜ r ≡ roundedAnswer (answerOf binary32 (opOf operation) mode bits) ⌝ }
 {
-    match op {
-        Op::Reciprocal => reciprocal(mode, bits),
-        Op::Root => root(mode, bits),
-        Op::InverseRoot => inverse_root(mode, bits),
+    match operation {
+        1 => reciprocal(mode, bits),
+        2 => root(mode, bits),
+        _ => inverse_root(mode, bits),
     }
 }
 

@@ -13,9 +13,6 @@ returns c = search refused
 of-requires : tie.Need-of-requires
 of-requires c κs = search needs
 
-of-requires-2 : tie.Need-of-requires-2
-of-requires-2 c κs = search needs
-
 answer-requires : tie.Need-answer-requires
 answer-requires c κs = search needs
 
@@ -32,7 +29,6 @@ call-spec =
     refusal-requires
     returns
     of-requires
-    of-requires-2
     answer-requires
     joined-requires
     returns-2)
