@@ -40,13 +40,7 @@ pub fn root(mode: Mode, x: Parts) -> Rounded
     let s = scale_normal(Width::Binary32, x);
     let e = estimate_of(Op::Root, s);
     let t = root_taken(mode, s.significand, e.scales.parity, e.answer);
-    normal_answer(
-        Width::Binary32,
-        0,
-        e.scales.scale,
-        t.significand,
-        t.more,
-    )
+    normal_answer(Width::Binary32, 0, e.scales.scale, t.significand, t.more)
 }
 
 pub fn inverse_root(mode: Mode, x: Parts) -> Rounded
@@ -56,11 +50,5 @@ pub fn inverse_root(mode: Mode, x: Parts) -> Rounded
     let s = scale_normal(Width::Binary32, x);
     let e = estimate_of(Op::InverseRoot, s);
     let t = inverse_root_taken(mode, s.significand, e.scales.parity, e.answer);
-    normal_answer(
-        Width::Binary32,
-        0,
-        e.scales.scale,
-        t.significand,
-        t.more,
-    )
+    normal_answer(Width::Binary32, 0, e.scales.scale, t.significand, t.more)
 }

@@ -28,6 +28,15 @@ use Rattle.floors.proofs.Between.{strideOf, side-under, side-over}
 use Rattle.floors.proofs.Modulo.{below-told}
 use Rattle.floors.proofs.Counted.{amountOf, amount-is, m32, triedOf, tried-large, reciprocal-floor, inverse-floored}
 
+-- a comparison counts at most once
+pub bit-most : (b : Bool) → boolByte b ≤ 1
+bit-most true = omega arith
+bit-most false = omega arith
+
+pub next-is : (t : ℕ) (b : Bool) → t + boolByte b ≡ cond b (t + 1) t
+next-is t true = refl
+next-is t false = omega arith
+
 -- t is the raw answer and so much more, less the rest, in steps of a significand
 abbrev baseOf : Op → ℕ
 baseOf Reciprocal = 11
@@ -94,11 +103,11 @@ module _ (y g rest : ℕ) (Y : Significand k32 t32 y) (few : rest ≤ 2) where
         let short : y ≤ 2 ^ 24 = omega (arith, Y .below) in
         lt-of-le-of-lt (mul-le-mul short small) (omega arith)
 
-    pub reciprocal-taken-is : TakenOf Reciprocal y (2 ^ 48) rest
-        (record { significand = n + boolByte (ltb (y * (2 * n + rest)) (2 ^ 48 + rest / 2)); more = not (eqb y 8388608) })
-    reciprocal-taken-is =
+    pub reciprocal-taken-is : (r : ℕ) → r ≡ cond (ltb (y * (2 * n + rest)) (2 ^ 48 + rest / 2)) (n + 1) n
+        → TakenOf Reciprocal y (2 ^ 48) rest (record { significand = r; more = not (eqb y 8388608) })
+    reciprocal-taken-is r e =
         let F = reciprocal-floor y g Y b in
-        record { floor = _; floored = F; is = tested Reciprocal y 0 g rest Y (omega arith) b few _ _ _ F refl }
+        record { floor = _; floored = F; is = e ∙ sym (next-is n (ltb (y * (2 * n + rest)) (2 ^ 48 + rest / 2))) ∙ tested Reciprocal y 0 g rest Y (omega arith) b few _ _ _ F refl }
 
   module _ (p : ℕ) (parity : p ≤ 1) (b : Between InverseRoot k32 t32 y p g) where
     abbrev i : ℕ
@@ -146,9 +155,10 @@ module _ (y g rest : ℕ) (Y : Significand k32 t32 y) (few : rest ≤ 2) where
           amount-is InverseRoot y (m + 1),
         )
 
-    pub inverse-taken-is : (w v : ℕ) → w ≡ m * m * y % 2 ^ 64 → v < 2 ^ 64 → (v + rest / 2) % 2 ^ 64 ≡ w
-        → TakenOf InverseRoot y (2 ^ (73 - p)) rest (record { significand = i + boolByte (leb 9223372036854775808 v); more = not (eqb y 8388608) || eqb p 1 })
-    inverse-taken-is w v ew small ev =
+    pub inverse-taken-is : (w v r : ℕ) → w ≡ m * m * y % 2 ^ 64 → v < 2 ^ 64 → (v + rest / 2) % 2 ^ 64 ≡ w
+        → r ≡ cond (leb 9223372036854775808 v) (i + 1) i
+        → TakenOf InverseRoot y (2 ^ (73 - p)) rest (record { significand = r; more = not (eqb y 8388608) || eqb p 1 })
+    inverse-taken-is w v r ew small ev e =
         let F = inverse-floored y g Y p parity b in
         let s : ℕ = side InverseRoot y m in
         let multiple : target ≡ 2 ^ 64 * 2 ^ (9 - p) = power-of (73 - p) (64 ∷ (9 - p) ∷ []) (omega arith) in
@@ -156,7 +166,7 @@ module _ (y g rest : ℕ) (Y : Significand k32 t32 y) (few : rest ≤ 2) where
         let told : leb 9223372036854775808 v ≡ ltb s (target + rest / 2) =
         below-told (2 ^ 64) (2 ^ 63) s (target + rest / 2) v (s / 2 ^ 64) ((v + rest / 2) / 2 ^ 64 + 2 ^ (9 - p)) (omega arith) small (omega (arith, multiple, ew, ev))
         (omega arith) (omega arith) in
-        record { floor = _; floored = F; is = tested InverseRoot y p g rest Y parity b few _ _ _ F told }
+        record { floor = _; floored = F; is = e ∙ sym (next-is i (leb 9223372036854775808 v)) ∙ tested InverseRoot y p g rest Y parity b few _ _ _ F told }
 
 -- by the case of the rounding
 module _ (op : Op) (y x : ℕ) (mode : Mode) (negative : Bool) (r : Taken) where
@@ -219,8 +229,3 @@ module _ (mode : Mode) (q : ℕ) (more : Bool) where
   pub root-zero : mode ≡ TowardZero → q / 2 ≡ takenBy (restOf mode false) q more
   unfolding takenBy restOf
   root-zero o = rw o
-
--- a comparison counts at most once
-pub bit-most : (b : Bool) → boolByte b ≤ 1
-bit-most true = omega arith
-bit-most false = omega arith

@@ -2,7 +2,7 @@
 // exact result beside m = 2t + rest, which is t, t + 1/2 or t + 1 by what the rounding leaves of the way between two neighbours, in halves.
 ghost use mathlib.Core.Path.{_≡_};
 ghost use mathlib.Core.Bool.{false, cond};
-ghost use Prim.Native.Nat.{_^_, _≤_, _<_};
+ghost use Prim.Native.Nat.{_+_, _^_, _≤_, _<_};
 ghost use Rattle.kinds.specs.declared.Op.the-variants.{Reciprocal, Root, InverseRoot};
 ghost use Rattle.kinds.specs.Guard.{restOf};
 ghost use Rattle.significand.specs.Width.{k32, t32, Significand};
@@ -30,6 +30,14 @@ fn rest_if(inward: bool) -> u64
     if inward { 2 } else { 0 }
 }
 
+// t, or the number after it.
+fn next_if(next: bool, t: u64) -> u64
+    requires { ⌜ t < 2 ^ 63 ⌝ }
+    ensures { λ r. ⌜ r ≡ cond next (t + 1) t ⌝ }
+{
+    t + next as u64
+}
+
 // The reciprocal's, each rounding by its own rest.
 pub fn reciprocal_taken(mode: Mode, negative: bool, y: u64, g: u64) -> Taken
     requires { ⌜ Significand k32 t32 y × (g < 2 ^ 32) × Between Reciprocal k32 t32 y 0 g ⌝ }
@@ -50,9 +58,9 @@ fn reciprocal_with(rest: u64, y: u64, g: u64) -> Taken
 {
     let t = (g + 11 - 8 * rest) / 16;
     let m = 2 * t + rest;
-    let next = (y * m < WHOLE + rest / 2) as u64;
+    let next = y * m < WHOLE + rest / 2;
     Taken {
-        significand: t + next,
+        significand: next_if(next, t),
         more: y != LEAST_SIGNIFICAND,
     }
 }
@@ -103,9 +111,9 @@ fn inverse_root_with(rest: u64, y: u64, p: u64, g: u64) -> Taken
     let t = (g + 8 - 8 * rest) / 16;
     let m = 2 * t + rest;
     let over = low_product(m * m, y);
-    let next = (HALF <= wrapping_sub_u64(over, rest / 2)) as u64;
+    let next = HALF <= wrapping_sub_u64(over, rest / 2);
     Taken {
-        significand: t + next,
+        significand: next_if(next, t),
         more: (y != LEAST_SIGNIFICAND) | (p == 1),
     }
 }

@@ -1,8 +1,7 @@
 -- `floors::taken::inverse_root_with` meets its contract: the significand is t or t + 1. Assumes nothing.
 use native.Mathlib.Omega.{arith}
-use lib.Dec.{leb}
 use Rattle.kinds.specs.declared.Op.the-variants.{InverseRoot}
-use Rattle.floors.proofs.Tested.{answer-large, bit-most, inverse-square, inverse-taken-is}
+use Rattle.floors.proofs.Tested.{answer-large, inverse-square, inverse-taken-is}
 use borrow.Author.Needs.{needs}
 use Rattle.floors.proofs.taken.inverse_root_with.Statement.{statement}
 use Rattle.floors.proofs.taken.inverse_root_with.Tie as tie
@@ -31,11 +30,8 @@ low-product-requires c κs = search needs
 wrapping-sub-u64-requires : tie.Need-wrapping-sub-u64-requires
 wrapping-sub-u64-requires c κs = search needs
 
-cast-next : tie.Need-cast-next
-cast-next c = search needs
-
-add-t10 : tie.Need-add-t10
-add-t10 c = omega (arith, bit-most (leb 9223372036854775808 (c .wrapping-sub-u64 .result)))
+next-if-requires : tie.Need-next-if-requires
+next-if-requires c κs = search needs
 
 returns : tie.Need-returns
 returns c = search inverse-taken-is
@@ -52,6 +48,5 @@ inverse-root-with-spec =
     mul-low-product
     low-product-requires
     wrapping-sub-u64-requires
-    cast-next
-    add-t10
+    next-if-requires
     returns)
