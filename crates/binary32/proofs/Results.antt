@@ -1,7 +1,7 @@
 -- The exact result and its two ways to the answer. Assumes nothing.
 use mathlib.Core.Path.{_≡_, refl, sym, ap, _∙_}
 use mathlib.Core.Bool.{Bool, true, false, true≢false, _&&_, not, and-false}
-use Prim.Native.Nat.{ℕ, suc, _+_, _*_, _-_, _/_, _%_, _^_, _≤_, _<_}
+use Prim.Native.Nat.{ℕ, _+_, _*_, _-_, _/_, _%_, _^_, _≤_, _<_}
 use native.Mathlib.Nat.{mul-le-mul-right, mod-eq-of-lt, div-eq-of-lt, div-mul-le-self, lt-div-mul-add}
 use native.Mathlib.Omega.{arith}
 use borrow.Author.Tests.{leb-true, ltb-true, lt-leb, ne-eqb, not-false}
@@ -19,7 +19,7 @@ use Rattle.ieee.specs.Floor.{targetOf, Floored, scaleOf}
 use Rattle.ieee.specs.Answer.{Answer, isSpecial, toFinite, answerOf}
 use Rattle.ieee.proofs.Targets.{quotient-small, quotient-large}
 use Rattle.ieee.proofs.Whole.{never-half}
-use Rattle.pattern.specs.Parts.{FieldsOf, PartsOf}
+use Rattle.pattern.specs.Parts.{PartsOf}
 use Rattle.pattern.specs.Operand.{Ordinary, Scaling}
 use Rattle.pattern.specs.Answer.{Answered}
 use Rattle.pattern.specs.declared.Width.the-variants.{Binary32}

@@ -1,5 +1,5 @@
 -- A raw answer as code hands it on. Assumes nothing.
-use Prim.Native.Nat.{ℕ, _^_, _<_}
+use Prim.Native.Nat.{_^_, _<_}
 use Rattle.kinds.specs.declared.Op.{Op}
 use Rattle.significand.specs.Width.{k32, t32, Operand}
 use Rattle.significand.specs.Distance.{Between}

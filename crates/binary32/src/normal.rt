@@ -1,5 +1,4 @@
 // The short way of each operation: a normal result of a normal operand, from the raw answer by one test.
-ghost use Prim.Native.Nat.{_<_};
 ghost use Rattle.kinds.specs.declared.Op.the-variants.{Reciprocal, Root, InverseRoot};
 ghost use Rattle.ieee.specs.Format.{binary32};
 ghost use Rattle.ieee.specs.Answer.{toFinite};

@@ -1,5 +1,5 @@
 -- Between which numbers the floor lies, from a raw answer and its distance, over k and t. Assumes nothing.
-use mathlib.Core.Path.{_≡_, sym, ap, subst, _∙_}
+use mathlib.Core.Path.{_≡_, ap, subst}
 use mathlib.Core.List.{[], _∷_}
 use Prim.Native.Nat.{ℕ, _+_, _*_, _-_, _^_, _≤_, _<_}
 use native.Mathlib.Nat.{lt-of-mul-lt-mul-left, lt-of-le-of-lt, lt-of-lt-of-le}

@@ -1,5 +1,5 @@
 -- The number tried at k = 7, and its neighbours: how many of them have a side above the target tells the floor. Assumes nothing.
-use mathlib.Core.Path.{_≡_, refl, sym, ap, ap₂, subst, _∙_}
+use mathlib.Core.Path.{_≡_, refl, sym, ap, _∙_}
 use mathlib.Core.Bool.{Bool, true, false, not, _&&_, _||_}
 use Prim.Native.Nat.{ℕ, zero, suc, _+_, _*_, _-_, _/_, _%_, _^_, _≤_, _<_}
 use mathlib.Core.List.{[], _∷_}
@@ -7,9 +7,7 @@ use native.Mathlib.Nat.{mul-le-mul, le-of-lt, lt-of-le-of-lt, mod-eq-of-lt}
 use native.Mathlib.Omega.{arith}
 use borrow.Author.Tests.{ltb-true, ltb-false, ne-eqb}
 use lib.Dec.{eqb, ltb}
-use lib.Pow.{pow-add, pow-lt}
-use mir.Syntax.{w64}
-use mir.Val.{Fits, boolByte}
+use mir.Val.{boolByte}
 use Rattle.kinds.specs.declared.Op.{Op}
 use Rattle.kinds.specs.declared.Op.the-variants.{Reciprocal, Root, InverseRoot}
 use Rattle.numbers.proofs.Exponents.{power-of}

@@ -2,7 +2,7 @@
 use mathlib.Core.Path.{_≡_, refl, sym, ap, _∙_}
 use mathlib.Core.Bool.{Bool, true, false, not, cond, _||_}
 use mathlib.Core.List.{[], _∷_}
-use Prim.Native.Nat.{ℕ, zero, suc, _+_, _*_, _-_, _/_, _%_, _^_, _≤_, _<_}
+use Prim.Native.Nat.{ℕ, suc, _+_, _*_, _-_, _/_, _%_, _^_, _≤_, _<_}
 use native.Mathlib.Nat.{mul-le-mul, le-of-lt, lt-of-le-of-lt}
 use native.Mathlib.Omega.{arith}
 use lib.Dec.{eqb, ltb, leb}
@@ -17,7 +17,6 @@ use Rattle.significand.specs.Width.{k32, t32, Significand}
 use Rattle.significand.specs.Distance.{boundOf, aboveOf, Between}
 use Rattle.ieee.specs.Rounded.{side}
 use Rattle.ieee.specs.Floor.{targetOf, Floored, takenBy}
-use Rattle.ieee.proofs.Neighbours.{side-rising}
 use Rattle.ieee.proofs.Targets.{quotient-small, quotient-large}
 use Rattle.ieee.proofs.Whole.{never-half}
 use Rattle.ieee.proofs.Taken.{taken-by}

@@ -11,7 +11,7 @@ use Rattle.kinds.specs.declared.Op.the-variants.{Reciprocal, Root, InverseRoot}
 use Rattle.numbers.specs.Nearest.{WithinOne}
 use Rattle.numbers.proofs.Exponents.{power-of}
 use Rattle.significand.specs.Width.{Significand}
-use Rattle.significand.specs.Distance.{Under, Over, Near, boundOf, aboveOf, Between}
+use Rattle.significand.specs.Distance.{Under, Over, boundOf, aboveOf, Between}
 use Rattle.significand.proofs.Close.{Close}
 use Rattle.significand.proofs.Units.{Setting, Floored, root-multiplier, inverse-multiplier, recip-multiplier, root-under, root-over, inverse-under, inverse-over, recip-under, recip-over}
 use Rattle.significand.proofs.Scale.{setting, whole-is, whole-least, parity-most, quotient-scale, square-scale, root-power, inverse-power, whole-square, over-least}

@@ -1,6 +1,5 @@
 -- `floors::taken::root_taken` meets its contract: the floor, rounded. Assumes nothing.
 use Rattle.floors.proofs.Counted.{root-floor-small}
-use Rattle.floors.proofs.Tested.{root-taken-is}
 use borrow.Author.Needs.{needs}
 use Rattle.floors.proofs.taken.root_taken.Statement.{statement}
 use Rattle.floors.proofs.taken.root_taken.Tie as tie
