@@ -1,12 +1,14 @@
 -- The inverse root of a squared length from the raw one of its leading bits. Assumes nothing.
 use Prim.Native.Nat.{ℕ, _+_, _-_, _*_, _/_, _%_, _^_, _≤_, _<_}
-use mathlib.Core.Path.{_≡_, subst}
+use mathlib.Core.Path.{_≡_, ap, subst}
 use mathlib.Core.List.{List, [], _∷_}
 use mathlib.Core.Logic.{by-cases}
-use native.Mathlib.Nat.{mul-le-mul, mul-le-mul-right, lt-of-lt-of-le}
+use native.Mathlib.Nat.{mul-le-mul, mul-le-mul-right, lt-of-lt-of-le, mod-eq-of-lt, pow-le-pow-right}
 use native.Mathlib.Decide.{decLt}
 use native.Mathlib.Omega.{arith}
 use lib.Pow.{pow-add}
+use mir.Syntax.{w64}
+use mir.Val.{Fits}
 use Rattle.numbers.proofs.Ring.{E, v, #, _⊕_, _⊗_, _⊙_⊑_, nlin×}
 use Rattle.kinds.specs.declared.Op.the-variants.{InverseRoot}
 use Rattle.significand.specs.Width.{k32, t32}
@@ -14,8 +16,8 @@ use Rattle.significand.specs.Steps.{rawOf}
 use Rattle.significand.specs.Distance.{Near, boundOf}
 use Rattle.significand.proofs.Accepted.{raw-near}
 use Rattle.leading.specs.Leading.{LeadingOf}
-use Rattle.leading.proofs.Exponents.{parity-most, parity-power, halves-low, halves-high}
-use Rattle.offset.specs.Inverse.{InverseOf}
+use Rattle.leading.proofs.Exponents.{exponent-below, parity-most, parity-power, halves-low, halves-high}
+use Rattle.offset.specs.Inverse.{lengthMost, InverseOf, ScaleOf}
 
 -- what an answer near 2^28 over √(y · P / 2^23) is at least and at most, P being 1 or 2
 module _ (y P : ℕ) (y-least : 2 ^ 23 ≤ y) (y-most : y < 2 ^ 24) (P-least : 1 ≤ P) (P-most : P ≤ 2) (x : ℕ) where
@@ -114,5 +116,31 @@ module _ (q y j : ℕ) (leading : LeadingOf q y j) (g : ℕ) (raw : g ≡ rawOf 
   pub answer-above : boundOf InverseRoot + 16 ≤ g
   answer-above = inverse-near .0
 
-  pub inverse-is : InverseOf q (lowered g) (27 + j / 2)
+  inverse-is : InverseOf q (lowered g) (27 + j / 2)
   inverse-is = inverse-near .1
+
+  -- brought to a fixed shift, and times a radius
+  module _ (radius : ℕ) (short : radius ≤ lengthMost) (small : q < 2 ^ 35) where
+    pub half-most : j / 2 ≤ 18
+    half-most = omega (arith, exponent-below q y j leading 35 small)
+
+    raised-most : radius * 2 ^ (18 - j / 2) ≤ lengthMost * 2 ^ 18
+    raised-most =
+        let k : 18 - j / 2 ≤ 18 = omega arith in
+        mul-le-mul short (pow-le-pow-right {n = 2} (omega arith) k)
+
+    raised-is : radius * 2 ^ (18 - j / 2) % 2 ^ 64 ≡ radius * 2 ^ (18 - j / 2)
+    raised-is = mod-eq-of-lt (omega (arith, raised-most))
+
+    pub scale-fits : Fits w64 (lowered g * (radius * 2 ^ (18 - j / 2) % 2 ^ 64))
+    scale-fits = rw raised-is (omega (arith, inverse-is .most, mul-le-mul (inverse-is .most) raised-most))
+
+    pub scale-is : ScaleOf q radius (lowered g * (radius * 2 ^ (18 - j / 2) % 2 ^ 64))
+    scale-is =
+        record {
+          low = lowered g;
+          half = j / 2;
+          half-most = half-most;
+          inverse = inverse-is;
+          is = ap (λ (x : ℕ). lowered g * x) raised-is;
+        }

@@ -19,6 +19,9 @@ use Rattle.cutter.specs.Accepted.{Sizes, Ready}
 use Rattle.cutter.specs.Map.{Inner, trailerOf}
 use Rattle.cutter.proofs.Lengths.{length-record}
 use Rattle.cutter.proofs.Points.{record-at}
+use Rattle.offset.specs.Inverse.{lengthMost}
+use Rattle.centres.specs.Prepared.{PreparedOf}
+use Rattle.centres.specs.declared.Prepared.{Prepared}
 use Rattle.rows.specs.Row.{rowRecord, rowBytes}
 use Rattle.trailer.specs.declared.Fields.{Fields}
 
@@ -39,6 +42,18 @@ row-fits w d row s h = omega (arith, row-most w d row s h)
 
 pub place-fits : (w d row n : ℕ) → Sizes w d → row < d - 2 → n < w - 2 → Fits w64 (row * (12 * (w - 2)) + n * 12)
 place-fits w d row n s h k = omega (arith, row-most w d row s h, s .narrow)
+
+-- a row that is held has a place for each
+pub place-held : (w d n : ℕ) → Sizes w d → n < w - 2 → n < 64
+place-held w d n s h = omega (arith, s .narrow)
+
+-- the components that it holds are short
+module _ (m : List ℕ) (t : Fields) (column row : ℕ) (p : Prepared) (f : PreparedOf m t column row p) where
+  pub x-held : p .x .magnitude ≤ lengthMost
+  x-held = omega (arith, f .x .most)
+
+  pub y-held : p .y .magnitude ≤ lengthMost
+  y-held = omega (arith, f .y .most)
 
 -- ---- their records
 
@@ -91,6 +106,11 @@ module _ (mode : Mode) (m : List ℕ) (t : Fields) (row : ℕ) (l₀ : List ℕ)
       → t .width - 2 ≤ n → l ≡ splice (row * (12 * (t .width - 2))) (rowBytes Touching mode m (t .width - 2) row) l₀
   unfolding rowBytes
   row-put l n v h = written-all (rowRecord Touching mode m (t .width - 2) row) (row * (12 * (t .width - 2))) (t .width - 2) l₀ l n v h
+
+-- a row at a rounding that is known
+pub row-known : (mode known : Mode) (m : List ℕ) (k row at : ℕ) (l l₁ : List ℕ) → mode ≡ known → l₁ ≡ splice at (rowBytes Touching known m k row) l
+    → l₁ ≡ splice at (rowBytes Touching mode m k row) l
+row-known mode known m k row at l l₁ z e = e ∙ ap (λ (x : Mode). splice at (rowBytes Touching x m k row) l) (sym z)
 
 -- ---- all rows
 

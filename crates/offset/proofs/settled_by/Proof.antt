@@ -1,6 +1,6 @@
 -- `offset::settled_by` meets its contract: each call is at the rest of its rounding. Assumes nothing.
-use Rattle.offset.proofs.Settling.{by-nearest, by-up, by-down, by-zero}
 use borrow.Author.Needs.{needs}
+use Rattle.offset.proofs.Settling.{by-nearest, by-up, by-down, by-zero}
 use Rattle.offset.proofs.settled_by.Statement.{statement}
 use Rattle.offset.proofs.settled_by.Tie as tie
 

@@ -1,79 +1,74 @@
--- `rows::put_row` meets its contract: after n turns the row's first n records are put. Assumes nothing.
-use Prim.Native.Nat.{_-_, _*_}
-use Rattle.kinds.specs.declared.Rule.the-variants.{Touching}
+-- `rows::put_row` meets its contract: each call is at its own rounding. Assumes nothing.
 use borrow.Author.Needs.{needs}
-use Rattle.rows.proofs.RowRecords.{inner-of, row-fits, place-fits, points-more, point-room, row-put}
-use Rattle.rows.specs.Row.{rowRecord}
-use Rattle.words.proofs.Runs.{Written, written-none}
+use Rattle.rows.proofs.RowRecords.{row-known}
 use Rattle.rows.proofs.put_row.Statement.{statement}
 use Rattle.rows.proofs.put_row.Tie as tie
 
-abbrev Inv-loop : tie.InvT-loop
-Inv-loop mode map out₀ trailer row count first n₀ out n =
-    Written (rowRecord Touching mode map (trailer .width - 2) row) (row * (12 * (trailer .width - 2))) (trailer .width - 2) out₀ out n
+enum-told : tie.Need-enum-told
+enum-told c = search needs
 
-abbrev μ-loop : tie.MeasureT-loop
-μ-loop mode map out₀ trailer row count first n₀ out n = trailer .width - 2 - n
+put-records-requires : tie.Need-put-records-requires
+put-records-requires c κs = search needs
 
-sub-count : tie.Need-sub-count Inv-loop μ-loop
-sub-count c = search needs
+enum-told-2 : tie.Need-enum-told-2
+enum-told-2 c = search needs
 
-mul-first : tie.Need-mul-first Inv-loop μ-loop
-mul-first c = search needs
+put-records-requires-2 : tie.Need-put-records-requires-2
+put-records-requires-2 c κs = search needs
 
-mul-first-2 : tie.Need-mul-first-2 Inv-loop μ-loop
-mul-first-2 c = search row-fits
+enum-told-3 : tie.Need-enum-told-3
+enum-told-3 c = search needs
 
-loop-holds : tie.Need-loop-holds Inv-loop μ-loop
-loop-holds c = search written-none
+put-records-requires-3 : tie.Need-put-records-requires-3
+put-records-requires-3 c κs = search needs
 
-add-put-point : tie.Need-add-put-point Inv-loop μ-loop
-add-put-point c = search needs
+enum-told-4 : tie.Need-enum-told-4
+enum-told-4 c = search needs
 
-add-put-point-2 : tie.Need-add-put-point-2 Inv-loop μ-loop
-add-put-point-2 c = search needs
+put-records-requires-4 : tie.Need-put-records-requires-4
+put-records-requires-4 c κs = search needs
 
-mul-put-point : tie.Need-mul-put-point Inv-loop μ-loop
-mul-put-point c = search needs
-
-add-put-point-3 : tie.Need-add-put-point-3 Inv-loop μ-loop
-add-put-point-3 c = search place-fits
-
-put-point-requires : tie.Need-put-point-requires Inv-loop μ-loop
-put-point-requires c κs = (search needs, (search inner-of, search point-room))
-
-add-n : tie.Need-add-n Inv-loop μ-loop
-add-n c = search needs
-
-loop-less : tie.Need-loop-less Inv-loop μ-loop
-loop-less c = search needs
-
-loop-again : tie.Need-loop-again Inv-loop μ-loop
-loop-again c = search points-more
-
-same-length : tie.Need-same-length Inv-loop μ-loop
+same-length : tie.Need-same-length
 same-length c = search needs
 
-returns : tie.Need-returns Inv-loop μ-loop
-returns c = search row-put
+returns : tie.Need-returns
+returns c = search row-known
+
+same-length-2 : tie.Need-same-length-2
+same-length-2 c = search needs
+
+returns-2 : tie.Need-returns-2
+returns-2 c = search row-known
+
+same-length-3 : tie.Need-same-length-3
+same-length-3 c = search needs
+
+returns-3 : tie.Need-returns-3
+returns-3 c = search row-known
+
+same-length-4 : tie.Need-same-length-4
+same-length-4 c = search needs
+
+returns-4 : tie.Need-returns-4
+returns-4 c = search row-known
 
 pub put-row-spec : {M : Type 1} → statement M
 put-row-spec =
     tie.close
     (tie.spec
-    Inv-loop
-    μ-loop
-    sub-count
-    mul-first
-    mul-first-2
-    loop-holds
-    add-put-point
-    add-put-point-2
-    mul-put-point
-    add-put-point-3
-    put-point-requires
-    add-n
-    loop-less
-    loop-again
+    enum-told
+    put-records-requires
+    enum-told-2
+    put-records-requires-2
+    enum-told-3
+    put-records-requires-3
+    enum-told-4
+    put-records-requires-4
     same-length
-    returns)
+    returns
+    same-length-2
+    returns-2
+    same-length-3
+    returns-3
+    same-length-4
+    returns-4)

@@ -1,0 +1,82 @@
+-- `centres::keep` meets its contract: five numbers are put. Assumes nothing.
+use borrow.Author.Needs.{needs}
+use Rattle.centres.proofs.Held.{kept-is}
+use Rattle.centres.proofs.keep.Statement.{statement}
+use Rattle.centres.proofs.keep.Tie as tie
+
+mul-at : tie.Need-mul-at
+mul-at c = search needs
+
+packed-requires : tie.Need-packed-requires
+packed-requires c κs = search needs
+
+mul-held : tie.Need-mul-held
+mul-held c = search needs
+
+element-write-held : tie.Need-element-write-held
+element-write-held c = search needs
+
+packed-requires-2 : tie.Need-packed-requires-2
+packed-requires-2 c κs = search needs
+
+add-held : tie.Need-add-held
+add-held c = search needs
+
+mul-held-2 : tie.Need-mul-held-2
+mul-held-2 c = search needs
+
+element-write-held-2 : tie.Need-element-write-held-2
+element-write-held-2 c = search needs
+
+add-held-2 : tie.Need-add-held-2
+add-held-2 c = search needs
+
+mul-held-3 : tie.Need-mul-held-3
+mul-held-3 c = search needs
+
+element-write-held-3 : tie.Need-element-write-held-3
+element-write-held-3 c = search needs
+
+add-held-3 : tie.Need-add-held-3
+add-held-3 c = search needs
+
+mul-held-4 : tie.Need-mul-held-4
+mul-held-4 c = search needs
+
+element-write-held-4 : tie.Need-element-write-held-4
+element-write-held-4 c = search needs
+
+add-held-4 : tie.Need-add-held-4
+add-held-4 c = search needs
+
+mul-held-5 : tie.Need-mul-held-5
+mul-held-5 c = search needs
+
+element-write-held-5 : tie.Need-element-write-held-5
+element-write-held-5 c = search needs
+
+returns : tie.Need-returns
+returns c = search kept-is
+
+pub keep-spec : {M : Type 1} → statement M
+keep-spec =
+    tie.close
+    (tie.spec
+    mul-at
+    packed-requires
+    mul-held
+    element-write-held
+    packed-requires-2
+    add-held
+    mul-held-2
+    element-write-held-2
+    add-held-2
+    mul-held-3
+    element-write-held-3
+    add-held-3
+    mul-held-4
+    element-write-held-4
+    add-held-4
+    mul-held-5
+    element-write-held-5
+    returns)
