@@ -9,13 +9,12 @@ import sys
 from math import isqrt
 from pathlib import Path
 
-# The file, the function whose body is a match on i, and the rule by R, 32,768 / i floored.
+# The file, the function whose body is a match on a key, its keys, and the arm by R, 32,768 / i floored, and the parity p: the seven
+# lower bits of a key are those of i, and the bit above them is p.
 TABLES = [
-    ("crates/factors/src/lib.rt", "factor", lambda r: r),
-    ("crates/roots/src/lib.rt", "multiplier_even", lambda r: nearest_root(2**64, r)),
-    ("crates/roots/src/lib.rt", "multiplier_odd", lambda r: nearest_root(2**65, r)),
-    ("crates/inverse_roots/src/lib.rt", "multiplier_even", lambda r: nearest_root(r * 2**56, 2**8)),
-    ("crates/inverse_roots/src/lib.rt", "multiplier_odd", lambda r: nearest_root(r * 2**56, 2**9)),
+    ("crates/factors/src/lib.rt", "factor", range(128), lambda r, p: f"{r}"),
+    ("crates/roots/src/lib.rt", "row", range(256, 512), lambda r, p: f"Row({r}, {nearest_root(2**(64 + p), r)})"),
+    ("crates/inverse_roots/src/lib.rt", "row", range(256, 512), lambda r, p: f"Row({r}, {nearest_root(r * 2**56, 2**(8 + p))})"),
 ]
 
 
@@ -25,11 +24,11 @@ def nearest_root(n, d):
     return (isqrt(4 * n // d) + 1) // 2
 
 
-def with_arms(text, function, rule):
+def with_arms(text, function, keys, rule):
     """The text with the arms of the match in this function made anew."""
-    arms = "".join(f"        {i if i < 255 else '_'} => {rule(32768 // i)},\n"
-                   for i in range(128, 256))
-    pattern = rf"(\bfn {function}\((?:(?!\bfn ).)*?\n    match i \{{\n)[^}}]*(    \}}\n)"
+    arms = "".join(f"        {key if key < keys[-1] else '_'} => {rule(32768 // (128 + key % 128), key // 128 % 2)},\n"
+                   for key in keys)
+    pattern = rf"(\bfn {function}\((?:(?!\bfn ).)*?\n    match key \{{\n)[^}}]*(    \}}\n)"
     text, count = re.subn(pattern, lambda found: found[1] + arms + found[2], text, flags=re.S)
     assert count == 1, function
     return text
@@ -40,10 +39,10 @@ def main():
     if sys.argv[1:] and not check:
         sys.exit("usage: make_tables.py [--check]")
     root = Path(__file__).resolve().parent.parent
-    old = {file: (root / file).read_text(encoding="utf-8") for file, _, _ in TABLES}
+    old = {file: (root / file).read_text(encoding="utf-8") for file, *_ in TABLES}
     new = dict(old)
-    for file, function, rule in TABLES:
-        new[file] = with_arms(new[file], function, rule)
+    for file, function, keys, rule in TABLES:
+        new[file] = with_arms(new[file], function, keys, rule)
     differing = [file for file in new if new[file] != old[file]]
     for file in differing:
         print(f"{file} differs" if check else f"{file} rewritten")

@@ -7,12 +7,12 @@ use Rattle.significand.specs.Width.{k32, t32, Significand}
 use Rattle.significand.specs.Steps.{factorOf}
 use Rattle.significand.proofs.Sizes.{factor-small}
 
--- two digits, each below m
-pub digits-product : (m a b : ℕ) → a < m → b < m → a * b < m * m
-digits-product m a b ha hb =
-    let most : b ≤ m - 1 = omega arith in
-    let back : m - 1 + 1 ≡ m = omega arith in
-    omega (arith, mul-le-mul (le-of-lt ha) most, ap (λ (n : ℕ). m * n) back)
+-- two numbers, each below a limit
+pub limits-product : (m n a b : ℕ) → a < m → b < n → a * b < m * n
+limits-product m n a b ha hb =
+    let most : b ≤ n - 1 = omega arith in
+    let back : n - 1 + 1 ≡ n = omega arith in
+    omega (arith, mul-le-mul (le-of-lt ha) most, ap (λ (x : ℕ). m * x) back)
 
 -- y × R has 33 bits
 pub reduced-product : (y r : ℕ) → Significand k32 t32 y → r ≡ factorOf k32 (y / 65536) → y * r < 2 ^ 33

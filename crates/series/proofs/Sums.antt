@@ -1,8 +1,7 @@
 -- The sums of step 3 as the code works them, in 64-bit signed numbers: each is the printed one. Assumes nothing.
 use mathlib.Core.Path.{_≡_, ap, _∙_}
 use mathlib.Core.Bool.{Bool}
-use Prim.Native.Nat.{ℕ, _/_, _^_, _≤_, _<_}
-use native.Mathlib.Nat.{mul-assoc}
+use Prim.Native.Nat.{ℕ, _+_, _*_, _/_, _^_, _≤_, _<_}
 use native.Mathlib.Omega.{arith}
 use lib.Dec.{T}
 use lib.IntN.{ℤ, natAbs}
@@ -13,17 +12,18 @@ use Rattle.kinds.specs.declared.Op.{Op}
 use Rattle.kinds.specs.declared.Op.the-variants.{Reciprocal, Root, InverseRoot}
 use Rattle.numbers.proofs.Signed.{X, _⊞_, _⊟_, _⊠_, value, operand, top, fine, held, bounded}
 use Rattle.significand.specs.Width.{k32}
-use Rattle.significand.specs.Steps.{unit, digit2, digit3, sumOf, seriesOf, divisorOf}
+use Rattle.significand.specs.Steps.{unit, digit2, digit3, carryOf, sumOf, seriesOf, divisorOf}
 use Rattle.significand.proofs.Numerals.{printed-sums}
 use Rattle.series.specs.declared.Terms.{Terms}
 use Rattle.series.specs.Parts.{TermsOf}
-use Rattle.series.proofs.Steps.{linear, square, cross, cube, #, tops, numbers, within}
+use Rattle.series.proofs.Gathered.{gathered, gathered-is}
+use Rattle.series.proofs.Steps.{sign, linear, cross, cube, #, tops, numbers, within}
 
 -- the sums
 abbrev pub sumX : Op → X
-sumX Reciprocal = # 128 ⊠ (# 268435456 ⊟ linear ⊞ square) ⊞ # 2 ⊠ cross ⊟ cube
-sumX Root = # 549755813888 ⊞ # 1024 ⊠ linear ⊟ # 256 ⊠ square ⊟ # 4 ⊠ cross ⊞ cube
-sumX InverseRoot = # 549755813888 ⊟ # 1024 ⊠ linear ⊞ # 768 ⊠ square ⊞ # 12 ⊠ cross ⊟ # 5 ⊠ cube
+sumX Reciprocal = # 34359738368 ⊞ cross ⊟ sign ⊠ (# 128 ⊠ linear ⊞ cube)
+sumX Root = # 549755813888 ⊟ # 2 ⊠ cross ⊞ sign ⊠ (# 1024 ⊠ linear ⊞ cube)
+sumX InverseRoot = # 549755813888 ⊞ # 6 ⊠ cross ⊟ sign ⊠ (# 1024 ⊠ linear ⊞ # 5 ⊠ cube)
 
 fine-sum : (op : Op) → T (fine (tops k32) (sumX op))
 fine-sum Reciprocal = tt
@@ -41,13 +41,16 @@ quotient-small Root n h = omega arith
 quotient-small InverseRoot n h = omega arith
 
 module _ (positive : Bool) (a : ℕ) (t : Terms) (h : TermsOf k32 positive a t) where
+  gathered-value : (op : Op)
+      → value (numbers t) (sumX op)
+      ≡ gathered k32 op (unit positive) a (128 * (digit2 k32 a * digit2 k32 a) + 2 * (digit2 k32 a * digit3 k32 a)) (carryOf k32 (digit2 k32 a) * digit2 k32 a)
+  gathered-value Reciprocal = rw (h .sign, h .linear, h .cross, h .cube)
+  gathered-value Root = rw (h .sign, h .linear, h .cross, h .cube)
+  gathered-value InverseRoot = rw (h .sign, h .linear, h .cross, h .cube)
+
   value-is : (op : Op) → value (numbers t) (sumX op) ≡ sumOf k32 op (unit positive) a
   unfolding sumOf
-  value-is Reciprocal = rw (h .linear, h .square, h .cross, h .cube, mul-assoc 2 (digit2 k32 a) (digit3 k32 a))
-  value-is Root =
-      rw (h .linear, h .square, h .cross, h .cube, mul-assoc 256 (digit2 k32 a) (digit2 k32 a), mul-assoc 4 (digit2 k32 a) (digit3 k32 a))
-  value-is InverseRoot =
-      rw (h .linear, h .square, h .cross, h .cube, mul-assoc 768 (digit2 k32 a) (digit2 k32 a), mul-assoc 12 (digit2 k32 a) (digit3 k32 a))
+  value-is op = gathered-value op ∙ gathered-is k32 a (digit2 k32 a) (digit3 k32 a) (carryOf k32 (digit2 k32 a)) positive op
 
 -- the sum is that of step 3 and not negative, and its quotient is the series, of 29 bits
 module _ (op : Op) (positive : Bool) (a : ℕ) (t : Terms) (below : a < 2097152) (h : TermsOf k32 positive a t) where

@@ -1,8 +1,8 @@
 -- What the parts of the raw code hand to each other. Assumes nothing.
 use mathlib.Core.Path.{_≡_}
-use Prim.Native.Nat.{ℕ, _*_, _<_, _^_}
+use Prim.Native.Nat.{ℕ, _+_, _*_, _<_, _^_}
 use mathlib.Core.Bool.{Bool}
-use lib.IntN.{pos, _*ℤ_}
+use lib.IntN.{pos}
 use Rattle.significand.specs.Steps.{signOf, unit, reducedOf, digit2, digit3, carryOf}
 use Rattle.series.specs.declared.Reduction.{Reduction}
 use Rattle.series.specs.declared.Terms.{Terms}
@@ -13,9 +13,9 @@ pub record Reduced (k t u : ℕ) (d : Reduction) : Type 0 where
   pub magnitude : d .magnitude ≡ reducedOf k t u
   pub small : d .magnitude < 2 ^ (3 * k)
 
--- what the three sums are made of: s·a, a2², a2·a3 and s·h·a2
+-- what the three sums are made of: s, a, 2^k·a2² + 2·a2·a3 and h·a2
 pub record TermsOf (k : ℕ) (positive : Bool) (a : ℕ) (t : Terms) : Type 0 where
-  pub linear : t .linear ≡ unit positive *ℤ pos a
-  pub square : t .square ≡ pos (digit2 k a * digit2 k a)
-  pub cross : t .cross ≡ pos (digit2 k a * digit3 k a)
-  pub cube : t .cube ≡ unit positive *ℤ pos (carryOf k (digit2 k a) * digit2 k a)
+  pub sign : t .sign ≡ unit positive
+  pub linear : t .linear ≡ pos a
+  pub cross : t .cross ≡ pos (2 ^ k * (digit2 k a * digit2 k a) + 2 * (digit2 k a * digit3 k a))
+  pub cube : t .cube ≡ pos (carryOf k (digit2 k a) * digit2 k a)

@@ -1,8 +1,8 @@
 // Steps 2 and 3 of the raw unit at k = 7: the reduction of a significand, and the three series. The sign, the magnitude and the form of
 // the terms are those of every k.
 ghost use mathlib.Core.Path.{_≡_};
-ghost use Prim.Native.Nat.{_+_, _*_, _/_, _≤_, _<_, _^_};
-ghost use lib.IntN.{pos, natAbs, _*ℤ_};
+ghost use Prim.Native.Nat.{_*_, _/_, _<_, _^_};
+ghost use lib.IntN.{natAbs};
 ghost use Rattle.kinds.specs.declared.Op.the-variants.{Reciprocal, Root, InverseRoot};
 ghost use Rattle.significand.specs.Width.{k32, t32, Significand};
 ghost use Rattle.significand.specs.Steps.{unit as Steps·unit, factorOf, seriesOf};
@@ -34,59 +34,52 @@ pub fn magnitude(d: i64) -> u64
     if 0 <= d { d as u64 } else { (0 - d) as u64 }
 }
 
-// The sign s, +1 or −1, and a product by it.
+// The sign s, +1 or −1.
 pub fn unit(positive: bool) -> i64
     ensures { λ r. ⌜ r ≡ Steps·unit positive ⌝ }
 {
     if positive { 1 } else { -1 }
 }
 
-pub fn times(s: i64, x: u64) -> i64
-    requires { ⌜ (natAbs s ≤ 1) × (x < 2 ^ 62) ⌝ }
-    ensures { λ r. ⌜ r ≡ s *ℤ pos x ⌝ }
-{
-    s * x as i64
-}
-
-// What the three sums are made of: s·a, a2², a2·a3 and s·h·a2.
+// What the three sums are made of: s, a, 2^k·a2² + 2·a2·a3 and h·a2.
 pub struct Terms {
+    pub sign: i64,
     pub linear: i64,
-    pub square: i64,
     pub cross: i64,
     pub cube: i64,
 }
 
+// The digits above the lowest are t, which is 128·a2 + a3: one product by a2 gives both terms of the second order.
 fn terms_of(positive: bool, a: u64) -> Terms
     requires { ⌜ a < 2 ^ 21 ⌝ }
     ensures { λ r. ⌜ TermsOf k32 positive a r ⌝ }
 {
-    let s = unit(positive);
-    let a2 = (a / 16384) as u32;
-    let a3 = (a / 128 % 128) as u32;
+    let t = a / 128;
+    let a2 = a / 16384;
     let square = product(a2, a2);
     Terms {
-        linear: times(s, a),
-        square: square as i64,
-        cross: product(a2, a3) as i64,
-        cube: times(s, product(square / 128, a2) as u64),
+        sign: unit(positive),
+        linear: a as i64,
+        cross: product(a2, t + t % 128) as i64,
+        cube: product(a2, square / 128) as i64,
     }
 }
 
-// The product of two numbers of 7 bits.
-fn product(a: u32, b: u32) -> u32
-    requires { ⌜ (a < 128) × (b < 128) ⌝ }
-    ensures { λ r. ⌜ (r ≡ a * b) × (r < 2 ^ 14) ⌝ }
+// The product of a number of 7 bits with one of 15.
+fn product(a: u64, b: u64) -> u64
+    requires { ⌜ (a < 128) × (b < 2 ^ 15) ⌝ }
+    ensures { λ r. ⌜ (r ≡ a * b) × (r < 2 ^ 22) ⌝ }
 {
     a * b
 }
 
-// Step 3, the series b of each operation: its sum in the order in which document 01 prints it, and one floored division.
+// Step 3, the series b of each operation: the printed sum, its terms gathered so that s enters once, and one floored division.
 pub fn reciprocal_series(positive: bool, a: u64) -> u64
     requires { ⌜ a < 2 ^ 21 ⌝ }
     ensures { λ r. ⌜ (r ≡ seriesOf k32 Reciprocal positive a) × (r < 2 ^ 29) ⌝ }
 {
     let t = terms_of(positive, a);
-    let sum = 128 * (268435456 - t.linear + t.square) + 2 * t.cross - t.cube;
+    let sum = 34359738368 + t.cross - t.sign * (128 * t.linear + t.cube);
     sum as u64 / 128
 }
 
@@ -95,7 +88,7 @@ pub fn root_series(positive: bool, a: u64) -> u64
     ensures { λ r. ⌜ (r ≡ seriesOf k32 Root positive a) × (r < 2 ^ 29) ⌝ }
 {
     let t = terms_of(positive, a);
-    let sum = 549755813888 + 1024 * t.linear - 256 * t.square - 4 * t.cross + t.cube;
+    let sum = 549755813888 - 2 * t.cross + t.sign * (1024 * t.linear + t.cube);
     sum as u64 / 2048
 }
 
@@ -104,6 +97,6 @@ pub fn inverse_root_series(positive: bool, a: u64) -> u64
     ensures { λ r. ⌜ (r ≡ seriesOf k32 InverseRoot positive a) × (r < 2 ^ 29) ⌝ }
 {
     let t = terms_of(positive, a);
-    let sum = 549755813888 - 1024 * t.linear + 768 * t.square + 12 * t.cross - 5 * t.cube;
+    let sum = 549755813888 + 6 * t.cross - t.sign * (1024 * t.linear + 5 * t.cube);
     sum as u64 / 2048
 }

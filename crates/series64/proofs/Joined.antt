@@ -13,22 +13,22 @@ use Rattle.kinds.specs.declared.Op.{Op}
 use Rattle.kinds.specs.declared.Op.the-variants.{Reciprocal, Root, InverseRoot}
 use Rattle.numbers.proofs.Signed.{X, _⊞_, _⊟_, _⊠_, value, operand, top, fine, held, bounded}
 use Rattle.significand.specs.Width.{k64}
-use Rattle.significand.specs.Steps.{seriesOf}
+use Rattle.significand.specs.Steps.{digit2, digit3, seriesOf}
 use Rattle.significand.proofs.Split.{wholeOf, restOf, joined, whole-not-negative, rest-not-negative, root-least, series-joined}
 use Rattle.series.specs.declared.Terms.{Terms}
 use Rattle.series.specs.Parts.{TermsOf}
-use Rattle.series.proofs.Steps.{linear, square, cross, cube, #, tops, numbers, within}
+use Rattle.series.proofs.Steps.{sign, linear, cross, cube, #, tops, numbers, within}
 
 -- the two parts of each sum
 abbrev pub wholeX : Op → X
-wholeX Reciprocal = # 1152921504606846976 ⊟ linear
-wholeX Root = # 2305843009213693952 ⊞ linear
-wholeX InverseRoot = # 2305843009213693952 ⊟ linear
+wholeX Reciprocal = # 1152921504606846976 ⊟ sign ⊠ linear
+wholeX Root = # 2305843009213693952 ⊞ sign ⊠ linear
+wholeX InverseRoot = # 2305843009213693952 ⊟ sign ⊠ linear
 
 abbrev pub restX : Op → X
-restX Reciprocal = # 32768 ⊠ square ⊞ # 2 ⊠ cross ⊟ cube
-restX Root = # 65536 ⊠ square ⊞ # 4 ⊠ cross ⊟ cube
-restX InverseRoot = # 196608 ⊠ square ⊞ # 12 ⊠ cross ⊟ # 5 ⊠ cube
+restX Reciprocal = cross ⊟ sign ⊠ cube
+restX Root = # 2 ⊠ cross ⊟ sign ⊠ cube
+restX InverseRoot = # 6 ⊠ cross ⊟ # 5 ⊠ (sign ⊠ cube)
 
 whole-fine : (op : Op) → T (fine (tops k64) (wholeX op))
 whole-fine Reciprocal = tt
@@ -51,7 +51,7 @@ whole-top Reciprocal = omega arith
 whole-top Root = omega arith
 whole-top InverseRoot = omega arith
 
-rest-top : (op : Op) → top (tops k64) (restX op) < 2 ^ 48
+rest-top : (op : Op) → top (tops k64) (restX op) < 2 ^ 49
 rest-top Reciprocal = omega arith
 rest-top Root = omega arith
 rest-top InverseRoot = omega arith
@@ -64,14 +64,24 @@ module _ (op : Op) (positive : Bool) (a : ℕ) (t : Terms) (below : a < 2 ^ 45) 
   rest = operand (numbers t) (restX op)
 
   whole-value : (op : Op) → value (numbers t) (wholeX op) ≡ wholeOf k64 op positive a
-  whole-value Reciprocal = rw (h .linear)
-  whole-value Root = rw (h .linear)
-  whole-value InverseRoot = rw (h .linear)
+  whole-value Reciprocal = rw (h .sign, h .linear)
+  whole-value Root = rw (h .sign, h .linear)
+  whole-value InverseRoot = rw (h .sign, h .linear)
+
+  abbrev squared : ℕ
+  squared = digit2 k64 a * digit2 k64 a
+
+  abbrev crossed : ℕ
+  crossed = digit2 k64 a * digit3 k64 a
 
   rest-value : (op : Op) → value (numbers t) (restX op) ≡ restOf k64 op positive a
-  rest-value Reciprocal = rw (h .square, h .cross, h .cube)
-  rest-value Root = rw (h .square, h .cross, h .cube)
-  rest-value InverseRoot = rw (h .square, h .cross, h .cube)
+  rest-value Reciprocal = rw (h .sign, h .cross, h .cube)
+  rest-value Root =
+      let twice : 2 * (32768 * squared + 2 * crossed) ≡ 65536 * squared + 4 * crossed = omega arith in
+      rw (h .sign, h .cross, h .cube, ← twice)
+  rest-value InverseRoot =
+      let six : 6 * (32768 * squared + 2 * crossed) ≡ 196608 * squared + 12 * crossed = omega arith in
+      rw (h .sign, h .cross, h .cube, ← six)
 
   whole-is : whole ≡ wholeOf k64 op positive a
   whole-is = held (numbers t) (tops k64) (within k64 (omega arith) positive a t below h) (wholeX op) (whole-fine op) ∙ whole-value op
@@ -88,7 +98,7 @@ module _ (op : Op) (positive : Bool) (a : ℕ) (t : Terms) (below : a < 2 ^ 45) 
   whole-most : natAbs whole < 2 ^ 62
   whole-most = omega (arith, whole-top op, whole-upto)
 
-  rest-most : natAbs rest < 2 ^ 48
+  rest-most : natAbs rest < 2 ^ 49
   rest-most = omega (arith, rest-top op, rest-upto)
 
   -- neither is negative, and both fit

@@ -8,7 +8,6 @@ ghost use Rattle.series.specs.Parts.{Reduced, TermsOf};
 use series::Reduction;
 use series::Terms;
 use series::magnitude;
-use series::times;
 use series::unit;
 
 // 2^37: an index counts its multiples in a significand.
@@ -39,27 +38,26 @@ pub fn reduce(y: u64, r: u64) -> Reduction
     }
 }
 
-// What the three sums are made of: s·a, a2², a2·a3 and s·h·a2.
+// What the three sums are made of. The digits above the lowest are t, which is 2^15·a2 + a3.
 fn terms_of(positive: bool, a: u64) -> Terms
     requires { ⌜ a < 2 ^ 45 ⌝ }
     ensures { λ r. ⌜ TermsOf k64 positive a r ⌝ }
 {
-    let s = unit(positive);
+    let t = a / 32768;
     let a2 = a / 0x4000_0000;
-    let a3 = a / 32768 % 32768;
     let square = product(a2, a2);
     Terms {
-        linear: times(s, a),
-        square: square as i64,
-        cross: product(a2, a3) as i64,
-        cube: times(s, product(square / 32768, a2)),
+        sign: unit(positive),
+        linear: a as i64,
+        cross: product(a2, t + t % 32768) as i64,
+        cube: product(a2, square / 32768) as i64,
     }
 }
 
-// The product of two numbers of 15 bits.
+// The product of a number of 15 bits with one of 31.
 fn product(a: u64, b: u64) -> u64
-    requires { ⌜ (a < 32768) × (b < 32768) ⌝ }
-    ensures { λ r. ⌜ (r ≡ a * b) × (r < 2 ^ 30) ⌝ }
+    requires { ⌜ (a < 32768) × (b < 2 ^ 31) ⌝ }
+    ensures { λ r. ⌜ (r ≡ a * b) × (r < 2 ^ 46) ⌝ }
 {
     a * b
 }
@@ -70,8 +68,8 @@ pub fn reciprocal_series(positive: bool, a: u64) -> u64
     ensures { λ r. ⌜ (r ≡ seriesOf k64 Reciprocal positive a) × (r < 2 ^ 61) ⌝ }
 {
     let t = terms_of(positive, a);
-    let whole = 0x1000_0000_0000_0000 - t.linear;
-    let rest = 32768 * t.square + 2 * t.cross - t.cube;
+    let whole = 0x1000_0000_0000_0000 - t.sign * t.linear;
+    let rest = t.cross - t.sign * t.cube;
     whole as u64 + rest as u64 / 32768
 }
 
@@ -81,8 +79,8 @@ pub fn root_series(positive: bool, a: u64) -> u64
     ensures { λ r. ⌜ (r ≡ seriesOf k64 Root positive a) × (r < 2 ^ 61) ⌝ }
 {
     let t = terms_of(positive, a);
-    let whole = 0x2000_0000_0000_0000 + t.linear;
-    let rest = 65536 * t.square + 4 * t.cross - t.cube;
+    let whole = 0x2000_0000_0000_0000 + t.sign * t.linear;
+    let rest = 2 * t.cross - t.sign * t.cube;
     (whole as u64 - (rest as u64 + 262143) / 262144) / 2
 }
 
@@ -91,8 +89,8 @@ pub fn inverse_root_series(positive: bool, a: u64) -> u64
     ensures { λ r. ⌜ (r ≡ seriesOf k64 InverseRoot positive a) × (r < 2 ^ 61) ⌝ }
 {
     let t = terms_of(positive, a);
-    let whole = 0x2000_0000_0000_0000 - t.linear;
-    let rest = 196608 * t.square + 12 * t.cross - 5 * t.cube;
+    let whole = 0x2000_0000_0000_0000 - t.sign * t.linear;
+    let rest = 6 * t.cross - 5 * (t.sign * t.cube);
     (whole as u64 + rest as u64 / 262144) / 2
 }
 

@@ -4,41 +4,35 @@ use borrow.Author.Needs.{needs}
 use Rattle.kinds.specs.declared.Op.the-variants.{Root}
 use Rattle.significand.specs.Width.{k32}
 use Rattle.numbers.proofs.Signed.{X, _⊞_, _⊟_, _⊠_}
-use Rattle.series.proofs.Steps.{linear, square, cross, #, step-fits}
+use Rattle.series.proofs.Steps.{sign, linear, cross, cube, #, step-fits}
 use Rattle.series.proofs.Sums.{sumX, not-negative, unsigned-fits, series-is, series-small}
 use Rattle.series.proofs.root_series.Statement.{statement}
 use Rattle.series.proofs.root_series.Tie as tie
 
--- the sum after one, two and three of its additions and subtractions
-abbrev one : X
-one = # 549755813888 ⊞ # 1024 ⊠ linear
+-- the sum without the terms that s multiplies, and those terms
+abbrev unsigned : X
+unsigned = # 549755813888 ⊟ # 2 ⊠ cross
 
-abbrev two : X
-two = one ⊟ # 256 ⊠ square
-
-abbrev three : X
-three = two ⊟ # 4 ⊠ cross
+abbrev signed : X
+signed = # 1024 ⊠ linear ⊞ cube
 
 terms-of-requires : tie.Need-terms-of-requires
 terms-of-requires c κs = search needs
 
 mul-sum : tie.Need-mul-sum
-mul-sum c = search (step-fits k32 (# 1024 ⊠ linear) (omega arith) tt)
-
-add-sum : tie.Need-add-sum
-add-sum c = search (step-fits k32 one (omega arith) tt)
-
-mul-sum-2 : tie.Need-mul-sum-2
-mul-sum-2 c = search (step-fits k32 (# 256 ⊠ square) (omega arith) tt)
+mul-sum c = search (step-fits k32 (# 2 ⊠ cross) (omega arith) tt)
 
 sub-sum : tie.Need-sub-sum
-sub-sum c = search (step-fits k32 two (omega arith) tt)
+sub-sum c = search (step-fits k32 unsigned (omega arith) tt)
+
+mul-sum-2 : tie.Need-mul-sum-2
+mul-sum-2 c = search (step-fits k32 (# 1024 ⊠ linear) (omega arith) tt)
+
+add-sum : tie.Need-add-sum
+add-sum c = search (step-fits k32 signed (omega arith) tt)
 
 mul-sum-3 : tie.Need-mul-sum-3
-mul-sum-3 c = search (step-fits k32 (# 4 ⊠ cross) (omega arith) tt)
-
-sub-sum-2 : tie.Need-sub-sum-2
-sub-sum-2 c = search (step-fits k32 three (omega arith) tt)
+mul-sum-3 c = search (step-fits k32 (sign ⊠ signed) (omega arith) tt)
 
 add-sum-2 : tie.Need-add-sum-2
 add-sum-2 c = search (step-fits k32 (sumX Root) (omega arith) tt)
@@ -55,11 +49,10 @@ root-series-spec =
     (tie.spec
     terms-of-requires
     mul-sum
-    add-sum
-    mul-sum-2
     sub-sum
+    mul-sum-2
+    add-sum
     mul-sum-3
-    sub-sum-2
     add-sum-2
     cast-result
     returns)

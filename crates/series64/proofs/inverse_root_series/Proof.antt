@@ -2,9 +2,9 @@
 use borrow.Author.Needs.{needs}
 use native.Mathlib.Omega.{arith}
 use Rattle.kinds.specs.declared.Op.the-variants.{InverseRoot}
-use Rattle.numbers.proofs.Signed.{_⊞_, _⊠_}
+use Rattle.numbers.proofs.Signed.{_⊠_}
 use Rattle.significand.specs.Width.{k64}
-use Rattle.series.proofs.Steps.{square, cross, cube, #, step-fits}
+use Rattle.series.proofs.Steps.{sign, linear, cross, cube, #, step-fits}
 use Rattle.series64.proofs.Joined.{wholeX, restX, whole-positive, rest-positive, whole-unsigned, rest-unsigned, sum-fits, series-is, series-small}
 use Rattle.series64.proofs.inverse_root_series.Statement.{statement}
 use Rattle.series64.proofs.inverse_root_series.Tie as tie
@@ -12,20 +12,20 @@ use Rattle.series64.proofs.inverse_root_series.Tie as tie
 terms-of-requires : tie.Need-terms-of-requires
 terms-of-requires c κs = search needs
 
+mul-whole : tie.Need-mul-whole
+mul-whole c = search (step-fits k64 (sign ⊠ linear) (omega arith) tt)
+
 sub-whole : tie.Need-sub-whole
 sub-whole c = search (step-fits k64 (wholeX InverseRoot) (omega arith) tt)
 
 mul-rest : tie.Need-mul-rest
-mul-rest c = search (step-fits k64 (# 196608 ⊠ square) (omega arith) tt)
+mul-rest c = search (step-fits k64 (# 6 ⊠ cross) (omega arith) tt)
 
 mul-rest-2 : tie.Need-mul-rest-2
-mul-rest-2 c = search (step-fits k64 (# 12 ⊠ cross) (omega arith) tt)
-
-add-rest : tie.Need-add-rest
-add-rest c = search (step-fits k64 (# 196608 ⊠ square ⊞ # 12 ⊠ cross) (omega arith) tt)
+mul-rest-2 c = search (step-fits k64 (sign ⊠ cube) (omega arith) tt)
 
 mul-rest-3 : tie.Need-mul-rest-3
-mul-rest-3 c = search (step-fits k64 (# 5 ⊠ cube) (omega arith) tt)
+mul-rest-3 c = search (step-fits k64 (# 5 ⊠ (sign ⊠ cube)) (omega arith) tt)
 
 sub-rest : tie.Need-sub-rest
 sub-rest c = search (step-fits k64 (restX InverseRoot) (omega arith) tt)
@@ -47,10 +47,10 @@ inverse-root-series-spec =
     tie.close
     (tie.spec
     terms-of-requires
+    mul-whole
     sub-whole
     mul-rest
     mul-rest-2
-    add-rest
     mul-rest-3
     sub-rest
     cast-result

@@ -2,9 +2,9 @@
 use borrow.Author.Needs.{needs}
 use native.Mathlib.Omega.{arith}
 use Rattle.kinds.specs.declared.Op.the-variants.{Reciprocal}
-use Rattle.numbers.proofs.Signed.{_⊞_, _⊠_}
+use Rattle.numbers.proofs.Signed.{_⊠_}
 use Rattle.significand.specs.Width.{k64}
-use Rattle.series.proofs.Steps.{square, cross, #, step-fits}
+use Rattle.series.proofs.Steps.{sign, linear, cube, step-fits}
 use Rattle.series64.proofs.Joined.{wholeX, restX, whole-positive, rest-positive, whole-unsigned, rest-unsigned, sum-fits, series-is, series-small}
 use Rattle.series64.proofs.reciprocal_series.Statement.{statement}
 use Rattle.series64.proofs.reciprocal_series.Tie as tie
@@ -12,17 +12,14 @@ use Rattle.series64.proofs.reciprocal_series.Tie as tie
 terms-of-requires : tie.Need-terms-of-requires
 terms-of-requires c κs = search needs
 
+mul-whole : tie.Need-mul-whole
+mul-whole c = search (step-fits k64 (sign ⊠ linear) (omega arith) tt)
+
 sub-whole : tie.Need-sub-whole
 sub-whole c = search (step-fits k64 (wholeX Reciprocal) (omega arith) tt)
 
 mul-rest : tie.Need-mul-rest
-mul-rest c = search (step-fits k64 (# 32768 ⊠ square) (omega arith) tt)
-
-mul-rest-2 : tie.Need-mul-rest-2
-mul-rest-2 c = search (step-fits k64 (# 2 ⊠ cross) (omega arith) tt)
-
-add-rest : tie.Need-add-rest
-add-rest c = search (step-fits k64 (# 32768 ⊠ square ⊞ # 2 ⊠ cross) (omega arith) tt)
+mul-rest c = search (step-fits k64 (sign ⊠ cube) (omega arith) tt)
 
 sub-rest : tie.Need-sub-rest
 sub-rest c = search (step-fits k64 (restX Reciprocal) (omega arith) tt)
@@ -44,10 +41,9 @@ reciprocal-series-spec =
     tie.close
     (tie.spec
     terms-of-requires
+    mul-whole
     sub-whole
     mul-rest
-    mul-rest-2
-    add-rest
     sub-rest
     cast-result
     cast-result-2
