@@ -140,12 +140,6 @@ module _ (p : Prepared) (n : ℕ) (l : List ℕ) where
       let fifth = five-fifth l (5 * n) (packedOf (p .x)) (packedOf (p .y)) (p .x .square) (p .y .square) (p .scale) room in
       same-point p (ap₂ componentIn first third ∙ component-back (p .x)) (ap₂ componentIn second fourth ∙ component-back (p .y)) fifth
 
-  pub kept-is : (x y : ℕ) (l₁ : List ℕ) → x ≡ packedOf (p .x) → y ≡ packedOf (p .y)
-      → l₁ ≡ set (set (set (set (set l (5 * n) x) (5 * n + 1) y) (5 * n + 2) (p .x .square)) (5 * n + 3) (p .y .square)) (5 * n + 4) (p .scale)
-      → l₁ ≡ keptIn p n l
-  unfolding keptIn
-  kept-is x y l₁ ex ey e = rw (← ex, ← ey) e
-
 pub read-is : (l : List ℕ) (n : ℕ) (x y : Component) → x ≡ componentIn (getD l (5 * n) 0) (getD l (5 * n + 2) 0)
     → y ≡ componentIn (getD l (5 * n + 1) 0) (getD l (5 * n + 3) 0)
     → record { x = x; y = y; scale = getD l (5 * n + 4) 0 } ≡ preparedIn l n
@@ -157,23 +151,29 @@ read-is l n x y ex ey = rw (ex, ey)
 pub held-none : (m : List ℕ) (t : Fields) (row : ℕ) (l : List ℕ) → RowHeld m t row 0 l
 held-none m t row l = record { each = λ c h. absurd (omega arith) }
 
-pub held-more : (m : List ℕ) (t : Fields) (row n : ℕ) (l l₁ : List ℕ) (p : Prepared) → length l ≡ 320 → n < 64 → RowHeld m t row n l
-    → PreparedOf m t (n + 1) (row + 1) p → l₁ ≡ keptIn p n l → RowHeld m t row (n + 1) l₁
-held-more m t row n l l₁ p long small held here e =
+held-more : (m : List ℕ) (t : Fields) (row n : ℕ) (l : List ℕ) (p : Prepared) → length l ≡ 320 → n < 64 → RowHeld m t row n l
+    → PreparedOf m t (n + 1) (row + 1) p → RowHeld m t row (n + 1) (keptIn p n l)
+held-more m t row n l p long small held here =
     record {
       each = λ c h.
-          subst (λ (x : List ℕ). PreparedOf m t (c + 1) (row + 1) (preparedIn x c)) (sym e)
-          (by-cases (decLt c n)
+          by-cases (decLt c n)
           (λ k. subst (PreparedOf m t (c + 1) (row + 1)) (sym (kept-before p n l c k)) (held .each c k))
           (λ k.
           let same : n ≡ c = omega arith in
           subst (λ (x : ℕ). PreparedOf m t (x + 1) (row + 1) (preparedIn (keptIn p n l) x)) same
-          (subst (PreparedOf m t (n + 1) (row + 1)) (sym (kept-here p n l (omega arith))) here)));
+          (subst (PreparedOf m t (n + 1) (row + 1)) (sym (kept-here p n l (omega arith))) here));
     }
 
-pub held-long : (n : ℕ) (l l₁ : List ℕ) (p : Prepared) → length l ≡ 320 → l₁ ≡ keptIn p n l → length l₁ ≡ 320
-unfolding keptIn
-held-long n l l₁ p long e = ap length e ∙ length-five l (5 * n) (packedOf (p .x)) (packedOf (p .y)) (p .x .square) (p .y .square) (p .scale) ∙ long
+-- one point more, by the code's numbers
+module _ (n : ℕ) (l : List ℕ) (x y : Component) (scale a b : ℕ) (long : length l ≡ 320) where
+  pub held-next : (m : List ℕ) (t : Fields) (row : ℕ) → n < 64 → RowHeld m t row n l → a ≡ packedOf x → b ≡ packedOf y
+      → PreparedOf m t (n + 1) (row + 1) (record { x = x; y = y; scale = scale })
+      → RowHeld m t row (n + 1) (set (set (set (set (set l (5 * n) a) (5 * n + 1) b) (5 * n + 2) (x .square)) (5 * n + 3) (y .square)) (5 * n + 4) scale)
+  held-next m t row small held ea eb here =
+      rw (ea, eb) (unfold keptIn in held-more m t row n l (record { x = x; y = y; scale = scale }) long small held here)
+
+  pub held-long : length (set (set (set (set (set l (5 * n) a) (5 * n + 1) b) (5 * n + 2) (x .square)) (5 * n + 3) (y .square)) (5 * n + 4) scale) ≡ 320
+  held-long = length-five l (5 * n) a b (x .square) (y .square) scale ∙ long
 
 pub held-all : (m : List ℕ) (t : Fields) (row n k : ℕ) (l : List ℕ) → RowHeld m t row n l → k ≤ n → RowHeld m t row k l
 held-all m t row n k l held h = record { each = λ c r. held .each c (omega arith) }

@@ -7,7 +7,7 @@ ghost use Rattle.offset.specs.Inverse.{lengthMost, ComponentRange, ScaleOf};
 ghost use Rattle.cutter.specs.Centre.{centreOf, pointAt, recordBytes};
 ghost use Rattle.cutter.specs.Map.{Inner};
 ghost use Rattle.cutter.specs.Accepted.{Ready, Steps};
-ghost use Rattle.centres.specs.Prepared.{signedOf, packedOf, componentIn, squaredOf, PreparedOf, preparedIn, keptIn};
+ghost use Rattle.centres.specs.Prepared.{signedOf, packedOf, componentIn, squaredOf, PreparedOf, preparedIn, RowHeld};
 ghost use Rattle.centres.specs.Words.{offsetParts, offsetsOf, Short, wordsBytes};
 use kinds::Mode;
 use maps::height_word;
@@ -44,26 +44,13 @@ pub struct Words {
 // A signed number with its square.
 fn component_of(s: Signed) -> Component
     requires { ⌜ s .magnitude ≤ lengthMost ⌝ }
-    ensures { λ r. ⌜ (signedOf r ≡ s) × (r .square ≡ s .magnitude * s .magnitude) ⌝ }
+    ensures { λ r. ⌜ (signedOf r ≡ s) × (r .square ≡ s .magnitude * s .magnitude) × (r .magnitude ≤ lengthMost) ⌝ }
 {
     Component {
         negative: s.negative,
         magnitude: s.magnitude,
         square: s.magnitude * s.magnitude,
     }
-}
-
-// Prepares an inner point: one inverse root for all three offsets.
-pub fn prepare(map: &[u8], trailer: Fields, column: usize, row: usize) -> Prepared
-    requires { ⌜ Ready (now map) trailer ⌝ }
-    requires { ⌜ Inner (trailer .width) (trailer .depth) column row ⌝ }
-    ensures { λ r. ⌜ PreparedOf (now (map .entry)) trailer column row r ⌝ }
-{
-    let normal = normal_at(map, trailer, column, row);
-    let x = component_of(normal.x);
-    let y = component_of(normal.y);
-    let scale = scale_of(normal.squared, trailer.radius);
-    Prepared { x, y, scale }
 }
 
 // A component's sign and magnitude in one number, the sign as the last bit.
@@ -85,17 +72,23 @@ fn unpacked(number: u64, square: u64) -> Component
     }
 }
 
-// Keeps a point at place n of a row.
-pub fn keep(held: &mut [u64; 320], n: usize, p: Prepared)
-    requires { ⌜ (n < 64) × (p .x .magnitude ≤ lengthMost) × (p .y .magnitude ≤ lengthMost) ⌝ }
-    ensures { λ _. ⌜ now (held .exit) ≡ keptIn p n (now (held .entry)) ⌝ }
+// Prepares inner point n of a row behind those before it, both counted from 0: one inverse root for all three offsets, and only its
+// own number is kept after it.
+pub fn prepare(map: &[u8], held: &mut [u64; 320], trailer: Fields, n: usize, row: usize)
+    requires { ⌜ Ready (now map) trailer ⌝ }
+    requires { ⌜ Inner (trailer .width) (trailer .depth) (n + 1) (row + 1) ⌝ }
+    requires { ⌜ (n < 64) × (length (now held) ≡ 320) × RowHeld (now map) trailer row n (now held) ⌝ }
+    ensures { λ _. ⌜ RowHeld (now (map .entry)) trailer row (n + 1) (now (held .exit)) × (length (now (held .exit)) ≡ 320) ⌝ }
 {
+    let normal = normal_at(map, trailer, n + 1, row + 1);
+    let x = component_of(normal.x);
+    let y = component_of(normal.y);
     let at = 5 * n;
-    held[at] = packed(p.x);
-    held[at + 1] = packed(p.y);
-    held[at + 2] = p.x.square;
-    held[at + 3] = p.y.square;
-    held[at + 4] = p.scale;
+    held[at] = packed(x);
+    held[at + 1] = packed(y);
+    held[at + 2] = x.square;
+    held[at + 3] = y.square;
+    held[at + 4] = scale_of(normal.squared, trailer.radius);
 }
 
 // The point that is kept at place n of a row.

@@ -1,12 +1,12 @@
 -- The inverse root of a squared length from the raw one of its leading bits. Assumes nothing.
 use Prim.Native.Nat.{ℕ, _+_, _-_, _*_, _/_, _%_, _^_, _≤_, _<_}
-use mathlib.Core.Path.{_≡_, ap, subst}
+use mathlib.Core.Path.{_≡_, ap, subst, _∙_}
 use mathlib.Core.List.{List, [], _∷_}
 use mathlib.Core.Logic.{by-cases}
-use native.Mathlib.Nat.{mul-le-mul, mul-le-mul-right, lt-of-lt-of-le, mod-eq-of-lt, pow-le-pow-right}
+use native.Mathlib.Nat.{mul-le-mul, mul-le-mul-right, lt-of-lt-of-le, mod-eq-of-lt, mul-div-cancel}
 use native.Mathlib.Decide.{decLt}
 use native.Mathlib.Omega.{arith}
-use lib.Pow.{pow-add}
+use lib.Pow.{pow-add, pow-pos}
 use mir.Syntax.{w64}
 use mir.Val.{Fits}
 use Rattle.numbers.proofs.Ring.{E, v, #, _⊕_, _⊗_, _⊙_⊑_, nlin×}
@@ -121,26 +121,27 @@ module _ (q y j : ℕ) (leading : LeadingOf q y j) (g : ℕ) (raw : g ≡ rawOf 
 
   -- brought to a fixed shift, and times a radius
   module _ (radius : ℕ) (short : radius ≤ lengthMost) (small : q < 2 ^ 35) where
-    pub half-most : j / 2 ≤ 18
+    half-most : j / 2 ≤ 18
     half-most = omega (arith, exponent-below q y j leading 35 small)
 
-    raised-most : radius * 2 ^ (18 - j / 2) ≤ lengthMost * 2 ^ 18
-    raised-most =
-        let k : 18 - j / 2 ≤ 18 = omega arith in
-        mul-le-mul short (pow-le-pow-right {n = 2} (omega arith) k)
+    raised-is : radius * 2 ^ 18 % 2 ^ 64 ≡ radius * 2 ^ 18
+    raised-is = mod-eq-of-lt (omega arith)
 
-    raised-is : radius * 2 ^ (18 - j / 2) % 2 ^ 64 ≡ radius * 2 ^ (18 - j / 2)
-    raised-is = mod-eq-of-lt (omega (arith, raised-most))
+    pub scale-fits : Fits w64 (lowered g * (radius * 2 ^ 18 % 2 ^ 64))
+    scale-fits = rw raised-is (omega (arith, inverse-is .most, mul-le-mul (inverse-is .most) short))
 
-    pub scale-fits : Fits w64 (lowered g * (radius * 2 ^ (18 - j / 2) % 2 ^ 64))
-    scale-fits = rw raised-is (omega (arith, inverse-is .most, mul-le-mul (inverse-is .most) raised-most))
-
-    pub scale-is : ScaleOf q radius (lowered g * (radius * 2 ^ (18 - j / 2) % 2 ^ 64))
+    pub scale-is : ScaleOf q radius (lowered g * (radius * 2 ^ 18 % 2 ^ 64) / 2 ^ (j / 2))
     scale-is =
+        let k : ℕ = 2 ^ (18 - j / 2) in
+        let sum : 18 ≡ 18 - j / 2 + j / 2 = omega (arith, half-most) in
+        let power : 2 ^ 18 ≡ k * 2 ^ (j / 2) = ap (λ (x : ℕ). 2 ^ x) sum ∙ pow-add 2 (18 - j / 2) (j / 2) in
+        let w : lowered g * (radius * (k * 2 ^ (j / 2))) ≡ lowered g * (radius * k) * 2 ^ (j / 2) = omega arith in
         record {
           low = lowered g;
           half = j / 2;
           half-most = half-most;
           inverse = inverse-is;
-          is = ap (λ (x : ℕ). lowered g * x) raised-is;
+          is = ap (λ (x : ℕ). lowered g * x / 2 ^ (j / 2)) (raised-is ∙ ap (λ (x : ℕ). radius * x) power)
+              ∙ ap (λ (x : ℕ). x / 2 ^ (j / 2)) w
+              ∙ mul-div-cancel (lowered g * (radius * k)) (pow-pos (j / 2));
         }

@@ -29,7 +29,7 @@ pub fn scale_of(q: u64, radius: u64) -> u64
     let leading = leading::leading_of(q);
     let g = raw::inverse_root(leading.significand, leading.exponent % 2);
     let low = (g as u64) - 23;
-    low * (radius << (18 - leading.exponent / 2))
+    (low * (radius << 18)) >> (leading.exponent / 2)
 }
 
 // The magnitude of an offset: component × radius over √q, rounded for the component's sign.

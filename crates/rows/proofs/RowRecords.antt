@@ -19,9 +19,6 @@ use Rattle.cutter.specs.Accepted.{Sizes, Ready}
 use Rattle.cutter.specs.Map.{Inner, trailerOf}
 use Rattle.cutter.proofs.Lengths.{length-record}
 use Rattle.cutter.proofs.Points.{record-at}
-use Rattle.offset.specs.Inverse.{lengthMost}
-use Rattle.centres.specs.Prepared.{PreparedOf}
-use Rattle.centres.specs.declared.Prepared.{Prepared}
 use Rattle.rows.specs.Row.{rowRecord, rowBytes}
 use Rattle.trailer.specs.declared.Fields.{Fields}
 
@@ -46,14 +43,6 @@ place-fits w d row n s h k = omega (arith, row-most w d row s h, s .narrow)
 -- a row that is held has a place for each
 pub place-held : (w d n : ℕ) → Sizes w d → n < w - 2 → n < 64
 place-held w d n s h = omega (arith, s .narrow)
-
--- the components that it holds are short
-module _ (m : List ℕ) (t : Fields) (column row : ℕ) (p : Prepared) (f : PreparedOf m t column row p) where
-  pub x-held : p .x .magnitude ≤ lengthMost
-  x-held = omega (arith, f .x .most)
-
-  pub y-held : p .y .magnitude ≤ lengthMost
-  y-held = omega (arith, f .y .most)
 
 -- ---- their records
 

@@ -9,7 +9,6 @@ ghost use Rattle.cutter.specs.Accepted.{Ready};
 ghost use Rattle.kinds.specs.declared.Rule.the-variants.{Touching};
 ghost use Rattle.centres.specs.Prepared.{RowHeld};
 ghost use Rattle.rows.specs.Row.{rowBytes, liftedRecord, RowReaches};
-use centres::keep;
 use centres::kept;
 use centres::prepare;
 use centres::put_point;
@@ -43,7 +42,7 @@ fn prepare_row(map: &[u8], held: &mut [u64; 320], trailer: Fields, row: usize)
     let count = trailer.width - 2;
     let mut n: usize = 0;
     while n < count {
-        keep(held, n, prepare(map, trailer, n + 1, row + 1));
+        prepare(map, held, trailer, n, row);
         n += 1;
     }
 }

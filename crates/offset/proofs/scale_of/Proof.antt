@@ -1,6 +1,6 @@
 -- `offset::scale_of` meets its contract: the raw answer lies within its distance, which is taken off. Assumes nothing.
 use borrow.Author.Needs.{needs}
-use Rattle.offset.proofs.InverseRoot.{answer-above, half-most, scale-fits, scale-is}
+use Rattle.offset.proofs.InverseRoot.{answer-above, scale-fits, scale-is}
 use Rattle.offset.proofs.scale_of.Statement.{statement}
 use Rattle.offset.proofs.scale_of.Tie as tie
 
@@ -16,17 +16,14 @@ cast-low c = search needs
 sub-low : tie.Need-sub-low
 sub-low c = search answer-above
 
-sub-result : tie.Need-sub-result
-sub-result c = search half-most
+mul-result : tie.Need-mul-result
+mul-result c = search scale-fits
 
 cast-result : tie.Need-cast-result
 cast-result c = search needs
 
-shl-result : tie.Need-shl-result
-shl-result c = search needs
-
-mul-result : tie.Need-mul-result
-mul-result c = search scale-fits
+shr-result : tie.Need-shr-result
+shr-result c = search needs
 
 returns : tie.Need-returns
 returns c = search scale-is
@@ -39,8 +36,7 @@ scale-of-spec =
     inverse-root-requires
     cast-low
     sub-low
-    sub-result
-    cast-result
-    shl-result
     mul-result
+    cast-result
+    shr-result
     returns)

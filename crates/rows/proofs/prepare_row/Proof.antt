@@ -4,8 +4,8 @@ use Prim.Native.Nat.{_-_}
 use borrow.Author.Needs.{needs}
 use lib.ListN.{length}
 use Rattle.centres.specs.Prepared.{RowHeld}
-use Rattle.centres.proofs.Held.{held-none, held-more, held-long, held-all}
-use Rattle.rows.proofs.RowRecords.{inner-of, place-held, x-held, y-held}
+use Rattle.centres.proofs.Held.{held-none, held-all}
+use Rattle.rows.proofs.RowRecords.{inner-of, place-held}
 use Rattle.rows.proofs.prepare_row.Statement.{statement}
 use Rattle.rows.proofs.prepare_row.Tie as tie
 
@@ -21,17 +21,8 @@ sub-count c = search needs
 loop-holds : tie.Need-loop-holds Inv-loop μ-loop
 loop-holds c = (search needs, search held-none)
 
-add-prepare : tie.Need-add-prepare Inv-loop μ-loop
-add-prepare c = search needs
-
-add-prepare-2 : tie.Need-add-prepare-2 Inv-loop μ-loop
-add-prepare-2 c = search needs
-
 prepare-requires : tie.Need-prepare-requires Inv-loop μ-loop
-prepare-requires c κs = (search needs, search inner-of)
-
-keep-requires : tie.Need-keep-requires Inv-loop μ-loop
-keep-requires c κs = (search place-held, search x-held, search y-held)
+prepare-requires c κs = (search needs, (search inner-of, (search place-held, search needs, search needs)))
 
 add-n : tie.Need-add-n Inv-loop μ-loop
 add-n c = search needs
@@ -40,7 +31,7 @@ loop-less : tie.Need-loop-less Inv-loop μ-loop
 loop-less c = search needs
 
 loop-again : tie.Need-loop-again Inv-loop μ-loop
-loop-again c = (search held-long, search (held-more, place-held))
+loop-again c = search needs
 
 returns : tie.Need-returns Inv-loop μ-loop
 returns c = (search held-all, search needs)
@@ -53,10 +44,7 @@ prepare-row-spec =
     μ-loop
     sub-count
     loop-holds
-    add-prepare
-    add-prepare-2
     prepare-requires
-    keep-requires
     add-n
     loop-less
     loop-again
