@@ -7,6 +7,7 @@ use native.Mathlib.Omega.{arith}
 use lib.ListN.{length}
 use mir.Val.{Fits}
 use mir.Syntax.{w64}
+use Rattle.kinds.specs.Rounding.{modeOf}
 use Rattle.kinds.specs.declared.Mode.{Mode}
 use Rattle.kinds.specs.declared.Rule.{Rule}
 use Rattle.kinds.specs.declared.Rule.the-variants.{Touching}
@@ -75,7 +76,7 @@ row-room k rows row n h r =
     omega arith
 
 module _ (mode : Mode) (m : List ℕ) (t : Fields) (row : ℕ) (l₀ : List ℕ) where
-  pub points-more : (l l₁ : List ℕ) (n : ℕ) → 12 * countOf (t .width) (t .depth) ≤ length l₀ → row < t .depth - 2 → Ready m t
+  points-more : (l l₁ : List ℕ) (n : ℕ) → 12 * countOf (t .width) (t .depth) ≤ length l₀ → row < t .depth - 2 → Ready m t
       → Written (rowRecord Touching mode m (t .width - 2) row) (row * (12 * (t .width - 2))) (t .width - 2) l₀ l n → n < t .width - 2
       → l₁ ≡ splice (row * (12 * (t .width - 2)) + n * 12) (recordBytes (centreOf mode (t .step) (t .radius) (pointAt m (t .width) (n + 1) (row + 1)))) l
       → length l₁ ≡ length l → Written (rowRecord Touching mode m (t .width - 2) row) (row * (12 * (t .width - 2))) (t .width - 2) l₀ l₁ (n + 1)
@@ -85,6 +86,21 @@ module _ (mode : Mode) (m : List ℕ) (t : Fields) (row : ℕ) (l₀ : List ℕ)
       (row-room (t .width - 2) (t .depth - 2) row (length l₀) r h) v more
       (e ∙ ap (λ (b : List ℕ). splice (at + n * 12) b l) (record-is Touching mode m t n row (a .is) more))
       long
+
+  -- a point at a rounding that is known, where the ways of the roundings meet
+  pub points-known : (known : Mode) (l l₁ l₂ : List ℕ) (n : ℕ) → mode ≡ known → 12 * countOf (t .width) (t .depth) ≤ length l₀ → row < t .depth - 2
+      → Ready m t → Written (rowRecord Touching mode m (t .width - 2) row) (row * (12 * (t .width - 2))) (t .width - 2) l₀ l n → n < t .width - 2
+      → l₁ ≡ splice (row * (12 * (t .width - 2)) + n * 12) (recordBytes (centreOf known (t .step) (t .radius) (pointAt m (t .width) (n + 1) (row + 1)))) l
+      → length l₁ ≡ length l → l₂ ≡ l₁
+      → Written (rowRecord Touching mode m (t .width - 2) row) (row * (12 * (t .width - 2))) (t .width - 2) l₀ l₂ (n + 1)
+  points-known known l l₁ l₂ n z h r a v more e long same =
+      points-more l l₂ n h r a v more
+      (same
+      ∙ e
+      ∙ ap
+      (λ (x : Mode). splice (row * (12 * (t .width - 2)) + n * 12) (recordBytes (centreOf x (t .step) (t .radius) (pointAt m (t .width) (n + 1) (row + 1)))) l)
+      (sym z))
+      (ap length same ∙ long)
 
   pub point-room : (l : List ℕ) (n : ℕ) → 12 * countOf (t .width) (t .depth) ≤ length l₀ → row < t .depth - 2
       → Written (rowRecord Touching mode m (t .width - 2) row) (row * (12 * (t .width - 2))) (t .width - 2) l₀ l n → n < t .width - 2
@@ -96,10 +112,12 @@ module _ (mode : Mode) (m : List ℕ) (t : Fields) (row : ℕ) (l₀ : List ℕ)
   unfolding rowBytes
   row-put l n v h = written-all (rowRecord Touching mode m (t .width - 2) row) (row * (12 * (t .width - 2))) (t .width - 2) l₀ l n v h
 
--- a row at a rounding that is known
-pub row-known : (mode known : Mode) (m : List ℕ) (k row at : ℕ) (l l₁ : List ℕ) → mode ≡ known → l₁ ≡ splice at (rowBytes Touching known m k row) l
-    → l₁ ≡ splice at (rowBytes Touching mode m k row) l
-row-known mode known m k row at l l₁ z e = e ∙ ap (λ (x : Mode). splice at (rowBytes Touching x m k row) l) (sym z)
+-- a record put at the rounding with a number
+pub put-known : (mode : Mode) (number : ℕ) (m : List ℕ) (t : Fields) (at n row : ℕ) (l l₁ : List ℕ) → mode ≡ modeOf number
+    → l₁ ≡ splice at (recordBytes (centreOf mode (t .step) (t .radius) (pointAt m (t .width) (n + 1) (row + 1)))) l
+    → l₁ ≡ splice at (recordBytes (centreOf (modeOf number) (t .step) (t .radius) (pointAt m (t .width) (n + 1) (row + 1)))) l
+put-known mode number m t at n row l l₁ z e =
+    e ∙ ap (λ (x : Mode). splice at (recordBytes (centreOf x (t .step) (t .radius) (pointAt m (t .width) (n + 1) (row + 1)))) l) z
 
 -- ---- all rows
 

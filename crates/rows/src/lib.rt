@@ -1,11 +1,13 @@
 // The records of a map's inner points, put row by row, and lifted where the rule asks for it.
 ghost use mathlib.Core.Path.{_≡_};
-ghost use Prim.Native.Nat.{_-_, _*_, _≤_, _<_};
+ghost use Prim.Native.Nat.{_+_, _-_, _*_, _≤_, _<_};
 ghost use lib.ListN.{length};
 ghost use Rattle.words.specs.Splice.{splice};
 ghost use Rattle.words.specs.Joined.{joined};
+ghost use Rattle.cutter.specs.Centre.{centreOf, pointAt, recordBytes};
 ghost use Rattle.cutter.specs.List.{countOf, recordAt};
 ghost use Rattle.cutter.specs.Accepted.{Ready};
+ghost use Rattle.kinds.specs.Rounding.{modeOf};
 ghost use Rattle.kinds.specs.declared.Rule.the-variants.{Touching};
 ghost use Rattle.centres.specs.Prepared.{RowHeld};
 ghost use Rattle.rows.specs.Row.{rowBytes, liftedRecord, RowReaches};
@@ -70,7 +72,7 @@ fn put_row_by(
     }
 }
 
-// The records of a row before the lift. Each rounding has a call of its own, so that it is known in the loop over the points.
+// The records of a row before the lift. Each rounding has a call of its own and is chosen before the loop, as nothing else is in it.
 fn put_row(mode: Mode, map: &[u8], out: &mut [u8], held: &[u64; 320], trailer: Fields, row: usize)
     requires { ⌜ Ready (now map) trailer ⌝ }
     requires { ⌜ row < trailer .depth - 2 ⌝ }
@@ -78,37 +80,38 @@ fn put_row(mode: Mode, map: &[u8], out: &mut [u8], held: &[u64; 320], trailer: F
     requires { ⌜ RowHeld (now map) trailer row (trailer .width - 2) (now held) ⌝ }
     ensures { λ _. ⌜ now (out .exit) ≡ splice (row * (12 * (trailer .width - 2))) (rowBytes Touching mode (now (map .entry)) (trailer .width - 2) row) (now (out .entry)) ⌝ }
 {
-    match mode {
-        Mode::Nearest => put_records(Mode::Nearest, map, out, held, trailer, row),
-        Mode::Up => put_records(Mode::Up, map, out, held, trailer, row),
-        Mode::Down => put_records(Mode::Down, map, out, held, trailer, row),
-        Mode::TowardZero => put_records(Mode::TowardZero, map, out, held, trailer, row),
+    let count = trailer.width - 2;
+    let mut n: usize = 0;
+    while n < count {
+        match mode {
+            Mode::Nearest => put_held(0, map, out, held, trailer, row, n),
+            Mode::Up => put_held(1, map, out, held, trailer, row, n),
+            Mode::Down => put_held(2, map, out, held, trailer, row, n),
+            Mode::TowardZero => put_held(3, map, out, held, trailer, row, n),
+        }
+        n += 1;
     }
 }
 
-// The records of a row before the lift, point by point.
-fn put_records(
-    mode: Mode,
+// The record of point n of a row before the lift, at the rounding with this number.
+fn put_held(
+    number: u8,
     map: &[u8],
     out: &mut [u8],
     held: &[u64; 320],
     trailer: Fields,
     row: usize,
+    n: usize,
 )
     requires { ⌜ Ready (now map) trailer ⌝ }
-    requires { ⌜ row < trailer .depth - 2 ⌝ }
-    requires { ⌜ 12 * countOf (trailer .width) (trailer .depth) ≤ length (now out) ⌝ }
+    requires { ⌜ (row < trailer .depth - 2) × (n < trailer .width - 2) ⌝ }
+    requires { ⌜ row * (12 * (trailer .width - 2)) + n * 12 + 12 ≤ length (now out) ⌝ }
     requires { ⌜ RowHeld (now map) trailer row (trailer .width - 2) (now held) ⌝ }
-    ensures { λ _. ⌜ now (out .exit) ≡ splice (row * (12 * (trailer .width - 2))) (rowBytes Touching mode (now (map .entry)) (trailer .width - 2) row) (now (out .entry)) ⌝ }
+    ensures { λ _. ⌜ now (out .exit) ≡ splice (row * (12 * (trailer .width - 2)) + n * 12) (recordBytes (centreOf (modeOf number) (trailer .step) (trailer .radius) (pointAt (now (map .entry)) (trailer .width) (n + 1) (row + 1)))) (now (out .entry)) ⌝ }
 {
-    let count = trailer.width - 2;
-    let first = row * (12 * count);
-    let mut n: usize = 0;
-    while n < count {
-        let p = kept(held, n);
-        put_point(mode, map, out, trailer, n + 1, row + 1, p, first + n * 12);
-        n += 1;
-    }
+    let at = row * (12 * (trailer.width - 2)) + n * 12;
+    let mode = Mode::of(number);
+    put_point(mode, map, out, trailer, n + 1, row + 1, kept(held, n), at);
 }
 
 // Lifts the records of a row.
