@@ -1,6 +1,6 @@
 -- One test settles n over √q, rounded: t and the next are told apart by where 2n over √q lies. Assumes nothing.
 use Prim.Native.Nat.{ℕ, suc, _+_, _-_, _*_, _/_, _%_, _^_, _≤_, _<_}
-use mathlib.Core.Path.{_≡_, sym, ap, ap₂, _∙_, subst}
+use mathlib.Core.Path.{_≡_, refl, sym, ap, ap₂, _∙_, subst}
 use mathlib.Core.Bool.{Bool, true, false, cond, not}
 use mathlib.Core.Logic.{by-cases}
 use native.Mathlib.Nat.{mul-le-mul, mul-le-mul-right}
@@ -9,7 +9,7 @@ use native.Mathlib.Omega.{arith}
 use borrow.Author.Tests.{lt-ltb, le-ltb, eq-eqb, ne-eqb}
 use lib.Dec.{eqb}
 use mir.Syntax.{w64}
-use mir.Val.{Fits}
+use mir.Val.{Fits, boolByte}
 use Rattle.kinds.specs.declared.Mode.{Mode}
 use Rattle.kinds.specs.declared.Mode.the-variants.{Nearest, Up, Down, TowardZero}
 use Rattle.kinds.specs.Rounding.{roundedBy}
@@ -209,6 +209,14 @@ module _ (mode : Mode) (c : Component) (radius q scale r : ℕ) (ranges : Compon
 
 -- ---- each rounding by its own rest
 
+bit-rest : (inward : Bool) → 2 * boolByte inward ≡ cond inward 2 0
+bit-rest true = refl
+bit-rest false = refl
+
+pub bit-most : (inward : Bool) → boolByte inward ≤ 1
+bit-most true = omega arith
+bit-most false = omega arith
+
 module _ (mode : Mode) (negative : Bool) (start nn q x : ℕ) where
   by-rest : (rest : ℕ) → rest ≡ restOf mode negative → x ≡ settledBy rest start nn q → x ≡ settledBy (restOf mode negative) start nn q
   by-rest rest z e = e ∙ ap (λ (y : ℕ). settledBy y start nn q) z
@@ -216,13 +224,12 @@ module _ (mode : Mode) (negative : Bool) (start nn q x : ℕ) where
   pub by-nearest : mode ≡ Nearest → x ≡ settledBy 1 start nn q → x ≡ settledBy (restOf mode negative) start nn q
   by-nearest z e = by-rest 1 (nearest-rest negative ∙ ap (λ (m : Mode). restOf m negative) (sym z)) e
 
-  pub by-up : (rest : ℕ) → mode ≡ Up → rest ≡ cond negative 2 0 → x ≡ settledBy rest start nn q
-      → x ≡ settledBy (restOf mode negative) start nn q
-  by-up rest z d e = by-rest rest (d ∙ up-rest negative ∙ ap (λ (m : Mode). restOf m negative) (sym z)) e
+  pub by-up : mode ≡ Up → x ≡ settledBy (2 * boolByte negative) start nn q → x ≡ settledBy (restOf mode negative) start nn q
+  by-up z e = by-rest (2 * boolByte negative) (bit-rest negative ∙ up-rest negative ∙ ap (λ (m : Mode). restOf m negative) (sym z)) e
 
-  pub by-down : (rest : ℕ) → mode ≡ Down → rest ≡ cond (not negative) 2 0 → x ≡ settledBy rest start nn q
-      → x ≡ settledBy (restOf mode negative) start nn q
-  by-down rest z d e = by-rest rest (d ∙ down-rest negative ∙ ap (λ (m : Mode). restOf m negative) (sym z)) e
+  pub by-down : mode ≡ Down → x ≡ settledBy (2 * boolByte (not negative)) start nn q → x ≡ settledBy (restOf mode negative) start nn q
+  by-down z e =
+      by-rest (2 * boolByte (not negative)) (bit-rest (not negative) ∙ down-rest negative ∙ ap (λ (m : Mode). restOf m negative) (sym z)) e
 
   pub by-zero : mode ≡ TowardZero → x ≡ settledBy 2 start nn q → x ≡ settledBy (restOf mode negative) start nn q
   by-zero z e = by-rest 2 (zero-rest negative ∙ ap (λ (m : Mode). restOf m negative) (sym z)) e
@@ -288,6 +295,39 @@ module _ (rest start nn q : ℕ) (most : rest ≤ 2) (started : Started start nn
       let none : x ≡ 0 = e ∙ sign-above (m * m * q) (4 * nn + tie) k (omega (arith, apart, high-side, started .low)) in
       simp (le-ltb (m * m * q) (4 * nn + tie) k) (ap (λ (y : ℕ). t + y) none ∙ omega arith))
 
+-- with an even rest, by a quarter of both numbers
+module _ (i start nn q : ℕ) (most : i ≤ 1) (started : Started start nn q) where
+  abbrev whole : ℕ
+  whole = (start + 1 - i) / 2
+
+  pub whole-fits : Fits w64 ((whole + i) * (whole + i))
+  whole-fits =
+      let h : (start + 1 - i) / 2 + i ≤ 2 * lengthMost = omega (arith, started .start-most) in
+      omega (arith, mul-le-mul h h)
+
+  settled-whole : (x : ℕ) → x ≡ signOf ((whole + i) * (whole + i) * q % 2 ^ 64) ((nn + i) % 2 ^ 64) → whole + x ≡ settledBy (2 * i) start nn q
+  unfolding settledBy takenBy
+  settled-whole x e =
+      let t : ℕ = (start + (2 - 2 * i) / 2) / 2 in
+      let same : (start + 1 - i) / 2 ≡ t = omega arith in
+      let u : ℕ = t + i in
+      let m : ℕ = 2 * t + 2 * i in
+      let four : m * m * q ≡ 4 * (u * u * q) = omega arith in
+      let tie : (2 * i + t % 2) / 2 ≡ i = omega arith in
+      let f : x ≡ signOf (u * u * q % 2 ^ 64) ((nn + i) % 2 ^ 64) = rw (← same) e in
+      let even : 2 * i ≤ 2 = omega arith in
+      by-cases (decLt (u * u * q) (nn + i))
+      (λ h.
+      let one : x ≡ 1 = f ∙ sign-below (u * u * q) (nn + i) h
+      (omega (arith, four, apart (2 * i) start nn q even started, low-side (2 * i) start nn q even started, started .high)) in
+      let g : m * m * q < 4 * nn + (2 * i + t % 2) / 2 = omega (arith, four, tie) in
+      simp (lt-ltb (m * m * q) (4 * nn + (2 * i + t % 2) / 2) g) (ap₂ _+_ same one))
+      (λ h.
+      let none : x ≡ 0 = f ∙ sign-above (u * u * q) (nn + i) (omega arith)
+      (omega (arith, four, apart (2 * i) start nn q even started, high-side (2 * i) start nn q even started, started .low)) in
+      let g : 4 * nn + (2 * i + t % 2) / 2 ≤ m * m * q = omega (arith, four, tie) in
+      simp (le-ltb (m * m * q) (4 * nn + (2 * i + t % 2) / 2) g) (ap₂ _+_ same none ∙ omega arith))
+
 -- the limit's lower word
 pub radius-fits : (radius : ℕ) → radius ≤ lengthMost → Fits w64 (radius * radius)
 radius-fits radius h = omega (arith, mul-le-mul h h)
@@ -308,3 +348,11 @@ pub settled-so : (rest start square radius q a limit p x : ℕ) → rest ≤ 2 �
     → (start + (2 - rest) / 2) / 2 + x ≡ settledBy rest start (square * (radius * radius)) q
 settled-so rest start square radius q a limit p x most started ea el ep ex =
     settled-by-sign rest start (square * (radius * radius)) q most started x (ex ∙ ap₂ signOf ep (limit-is square radius _ a limit ea el))
+
+pub whole-so : (i start square radius q a limit p x : ℕ) → i ≤ 1 → Started start (square * (radius * radius)) q
+    → a ≡ square * (radius * radius) % 2 ^ 64 → limit ≡ (a + i) % 2 ^ 64
+    → p ≡ ((start + 1 - i) / 2 + i) * ((start + 1 - i) / 2 + i) * q % 2 ^ 64 → x ≡ signOf p limit
+    → (start + 1 - i) / 2 + x ≡ settledBy (2 * i) start (square * (radius * radius)) q
+whole-so i start square radius q a limit p x most started ea el ep ex =
+    let l : limit ≡ (square * (radius * radius) + i) % 2 ^ 64 = omega arith in
+    settled-whole i start (square * (radius * radius)) q most started x (ex ∙ ap₂ signOf ep l)

@@ -48,17 +48,10 @@ fn settled_by(mode: Mode, negative: bool, start: u64, square: u64, radius: u64, 
 {
     match mode {
         Mode::Nearest => settled(1, start, square, radius, q),
-        Mode::Up => settled(rest_if(negative), start, square, radius, q),
-        Mode::Down => settled(rest_if(!negative), start, square, radius, q),
-        Mode::TowardZero => settled(2, start, square, radius, q),
+        Mode::Up => settled_whole(negative as u64, start, square, radius, q),
+        Mode::Down => settled_whole((!negative) as u64, start, square, radius, q),
+        Mode::TowardZero => settled_whole(1, start, square, radius, q),
     }
-}
-
-// 2 toward zero, 0 away from it.
-fn rest_if(inward: bool) -> u64
-    ensures { λ r. ⌜ (r ≡ cond inward 2 0) × (r ≤ 2) ⌝ }
-{
-    if inward { 2 } else { 0 }
 }
 
 // From a start that is 2n over √q, floored, or one below it, n² being square × radius²: t is the magnitude or one below it, and one
@@ -74,6 +67,17 @@ fn settled(rest: u64, start: u64, square: u64, radius: u64, q: u64) -> u64
         low_product(square, 4 * (radius * radius)),
         (rest + t % 2) / 2,
     );
+    t + sign_of(low_product(m * m, q), limit)
+}
+
+// The same where the rest is two halves, toward zero, or none, away from it: a quarter of both numbers is enough.
+fn settled_whole(inward: u64, start: u64, square: u64, radius: u64, q: u64) -> u64
+    requires { ⌜ (inward ≤ 1) × (radius ≤ lengthMost) × Started start (square * (radius * radius)) q ⌝ }
+    ensures { λ r. ⌜ r ≡ settledBy (2 * inward) start (square * (radius * radius)) q ⌝ }
+{
+    let t = (start + 1 - inward) / 2;
+    let m = t + inward;
+    let limit = wrapping_add_u64(low_product(square, radius * radius), inward);
     t + sign_of(low_product(m * m, q), limit)
 }
 
