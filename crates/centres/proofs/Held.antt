@@ -38,8 +38,8 @@ bit-most : (b : Bool) → boolByte b ≤ 1
 bit-most true = omega arith
 bit-most false = omega arith
 
-pub packed-fits : (c : Component) → c .magnitude ≤ lengthMost → Fits w64 (2 * c .magnitude + boolByte (c .negative))
-packed-fits c h = omega (arith, bit-most (c .negative))
+pub packed-fits : (c : Component) (b : Bool) → c .magnitude ≤ lengthMost → Fits w64 (2 * c .magnitude + boolByte b)
+packed-fits c b h = omega (arith, bit-most b)
 
 pub packed-is : (c : Component) → 2 * c .magnitude + boolByte (c .negative) ≡ packedOf c
 packed-is c = ap (λ (x : ℕ). 2 * c .magnitude + x) (bit-is (c .negative))

@@ -113,8 +113,8 @@ module _ (q y j : ℕ) (leading : LeadingOf q y j) (g : ℕ) (raw : g ≡ rawOf 
         },
       )
 
-  pub answer-above : boundOf InverseRoot + 16 ≤ g
-  answer-above = inverse-near .0
+  pub answer-above : (k : ℕ) → k ≤ boundOf InverseRoot + 16 → k ≤ g
+  answer-above k h = omega (arith, inverse-near .0)
 
   inverse-is : InverseOf q (lowered g) (27 + j / 2)
   inverse-is = inverse-near .1
@@ -127,8 +127,10 @@ module _ (q y j : ℕ) (leading : LeadingOf q y j) (g : ℕ) (raw : g ≡ rawOf 
     raised-is : radius * 2 ^ 18 % 2 ^ 64 ≡ radius * 2 ^ 18
     raised-is = mod-eq-of-lt (omega arith)
 
-    pub scale-fits : Fits w64 (lowered g * (radius * 2 ^ 18 % 2 ^ 64))
-    scale-fits = rw raised-is (omega (arith, inverse-is .most, mul-le-mul (inverse-is .most) short))
+    pub scale-fits : (k : ℕ) → Fits w64 ((g - k) * (radius * 2 ^ 18 % 2 ^ 64))
+    scale-fits k =
+        let h : g - k ≤ 2 ^ 28 + 23 = omega (arith, inverse-is .most) in
+        rw raised-is (omega (arith, mul-le-mul h short))
 
     pub scale-is : ScaleOf q radius (lowered g * (radius * 2 ^ 18 % 2 ^ 64) / 2 ^ (j / 2))
     scale-is =

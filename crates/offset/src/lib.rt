@@ -76,9 +76,9 @@ fn settled_whole(inward: u64, start: u64, square: u64, radius: u64, q: u64) -> u
     ensures { λ r. ⌜ r ≡ settledBy (2 * inward) start (square * (radius * radius)) q ⌝ }
 {
     let t = (start + 1 - inward) / 2;
-    let m = t + inward;
+    let u = t + inward;
     let limit = wrapping_add_u64(low_product(square, radius * radius), inward);
-    t + sign_of(low_product(m * m, q), limit)
+    t + sign_of(low_product(u * u, q), limit)
 }
 
 // The sign of a less b, of which the lower words are given: 1 where the difference is negative, 0 where it is not.

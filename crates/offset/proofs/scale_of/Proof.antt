@@ -14,7 +14,7 @@ cast-low : tie.Need-cast-low
 cast-low c = search needs
 
 sub-low : tie.Need-sub-low
-sub-low c = search answer-above
+sub-low c = search (answer-above, needs)
 
 mul-result : tie.Need-mul-result
 mul-result c = search scale-fits

@@ -10,8 +10,8 @@ add-t c = search needs
 sub-t : tie.Need-sub-t
 sub-t c = search needs
 
-add-m : tie.Need-add-m
-add-m c = search needs
+add-u : tie.Need-add-u
+add-u c = search needs
 
 mul-low-product : tie.Need-mul-low-product
 mul-low-product c = search radius-fits
@@ -43,7 +43,7 @@ settled-whole-spec =
     (tie.spec
     add-t
     sub-t
-    add-m
+    add-u
     mul-low-product
     low-product-requires
     wrapping-add-u64-requires
