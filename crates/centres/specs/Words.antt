@@ -7,22 +7,28 @@ use Rattle.words.specs.Word.{wordBytes}
 use Rattle.words.specs.declared.Signed.{Signed}
 use Rattle.cutter.specs.Limits.{radiusMost}
 use Rattle.cutter.specs.Offset.{roundedOver}
-use Rattle.normals.specs.declared.Normal.{Normal}
+use Rattle.offset.specs.declared.Component.{Component}
+use Rattle.centres.specs.Prepared.{squaredOf}
 use Rattle.centres.specs.declared.Offsets.{Offsets}
+use Rattle.centres.specs.declared.Prepared.{Prepared}
 use Rattle.centres.specs.declared.Words.{Words}
 
 -- an offset by sign and magnitude
-abbrev pub offsetParts : Mode → Signed → ℕ → ℕ → Signed
-offsetParts mode s radius q =
-    record { negative = s .negative; magnitude = roundedOver mode (s .negative) (s .magnitude * radius) q }
+abbrev pub offsetParts : Mode → Component → ℕ → ℕ → Signed
+offsetParts mode c radius q =
+    record { negative = c .negative; magnitude = roundedOver mode (c .negative) (c .magnitude * radius) q }
+
+-- the component along z, 2·step
+abbrev pub upOf : ℕ → Component
+upOf step = record { negative = false; magnitude = 2 * step; square = 4 * step * step }
 
 -- the three offsets at a point
-unfoldable pub offsetsOf : Mode → Normal → ℕ → ℕ → Offsets
-offsetsOf mode n step radius =
+unfoldable pub offsetsOf : Mode → Prepared → ℕ → ℕ → Offsets
+offsetsOf mode p step radius =
     record {
-      x = offsetParts mode (n .x) radius (n .squared);
-      y = offsetParts mode (n .y) radius (n .squared);
-      z = offsetParts mode (record { negative = false; magnitude = 2 * step }) radius (n .squared);
+      x = offsetParts mode (p .x) radius (squaredOf p step);
+      y = offsetParts mode (p .y) radius (squaredOf p step);
+      z = offsetParts mode (upOf step) radius (squaredOf p step);
     }
 
 -- an offset is at most the radius

@@ -9,10 +9,11 @@ ghost use Rattle.cutter.specs.Map.{Inner, dxAt, dyAt};
 ghost use Rattle.cutter.specs.Limits.{stepMost, differenceMost};
 ghost use Rattle.cutter.specs.Accepted.{Heights, Ready};
 ghost use Rattle.normals.specs.Normal.{NormalOf, Measured};
-use maps::height_at;
+use maps::height_word;
 use trailer::Fields;
 use words::Signed;
-use words::difference;
+use words::i32_of;
+use words::parts_of;
 
 // The height at place i less that at place j.
 fn slope(map: &[u8], i: usize, j: usize, count: usize) -> Signed
@@ -20,7 +21,7 @@ fn slope(map: &[u8], i: usize, j: usize, count: usize) -> Signed
     requires { ⌜ Heights (now map) count ⌝ }
     ensures { λ r. ⌜ (r ≡ partsOf (signed (wordAt (now (map .entry)) (4 * i)) -ℤ signed (wordAt (now (map .entry)) (4 * j)))) × (r .magnitude ≤ differenceMost) ⌝ }
 {
-    difference(height_at(map, i, count), height_at(map, j, count))
+    parts_of(i32_of(height_word(map, i, count)) - i32_of(height_word(map, j, count)))
 }
 
 // The normal by its first two components, −dx and −dy, and its squared length.

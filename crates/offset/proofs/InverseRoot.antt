@@ -1,12 +1,14 @@
 -- The inverse root of a squared length from the raw one of its leading bits. Assumes nothing.
 use Prim.Native.Nat.{ℕ, _+_, _-_, _*_, _/_, _%_, _^_, _≤_, _<_}
-use mathlib.Core.Path.{_≡_, subst}
+use mathlib.Core.Path.{_≡_, ap, subst, _∙_}
 use mathlib.Core.List.{List, [], _∷_}
 use mathlib.Core.Logic.{by-cases}
-use native.Mathlib.Nat.{mul-le-mul, mul-le-mul-right, lt-of-lt-of-le}
+use native.Mathlib.Nat.{mul-le-mul, mul-le-mul-right, lt-of-lt-of-le, mod-eq-of-lt, mul-div-cancel}
 use native.Mathlib.Decide.{decLt}
 use native.Mathlib.Omega.{arith}
-use lib.Pow.{pow-add}
+use lib.Pow.{pow-add, pow-pos}
+use mir.Syntax.{w64}
+use mir.Val.{Fits}
 use Rattle.numbers.proofs.Ring.{E, v, #, _⊕_, _⊗_, _⊙_⊑_, nlin×}
 use Rattle.kinds.specs.declared.Op.the-variants.{InverseRoot}
 use Rattle.significand.specs.Width.{k32, t32}
@@ -14,8 +16,8 @@ use Rattle.significand.specs.Steps.{rawOf}
 use Rattle.significand.specs.Distance.{Near, boundOf}
 use Rattle.significand.proofs.Accepted.{raw-near}
 use Rattle.leading.specs.Leading.{LeadingOf}
-use Rattle.leading.proofs.Exponents.{parity-most, parity-power, halves-low, halves-high}
-use Rattle.offset.specs.Inverse.{InverseOf}
+use Rattle.leading.proofs.Exponents.{exponent-below, parity-most, parity-power, halves-low, halves-high}
+use Rattle.offset.specs.Inverse.{lengthMost, InverseOf, ScaleOf}
 
 -- what an answer near 2^28 over √(y · P / 2^23) is at least and at most, P being 1 or 2
 module _ (y P : ℕ) (y-least : 2 ^ 23 ≤ y) (y-most : y < 2 ^ 24) (P-least : 1 ≤ P) (P-most : P ≤ 2) (x : ℕ) where
@@ -111,8 +113,37 @@ module _ (q y j : ℕ) (leading : LeadingOf q y j) (g : ℕ) (raw : g ≡ rawOf 
         },
       )
 
-  pub answer-above : boundOf InverseRoot + 16 ≤ g
-  answer-above = inverse-near .0
+  pub answer-above : (k : ℕ) → k ≤ boundOf InverseRoot + 16 → k ≤ g
+  answer-above k h = omega (arith, inverse-near .0)
 
-  pub inverse-is : InverseOf q (lowered g) (27 + j / 2)
+  inverse-is : InverseOf q (lowered g) (27 + j / 2)
   inverse-is = inverse-near .1
+
+  -- brought to a fixed shift, and times a radius
+  module _ (radius : ℕ) (short : radius ≤ lengthMost) (small : q < 2 ^ 35) where
+    half-most : j / 2 ≤ 18
+    half-most = omega (arith, exponent-below q y j leading 35 small)
+
+    raised-is : radius * 2 ^ 18 % 2 ^ 64 ≡ radius * 2 ^ 18
+    raised-is = mod-eq-of-lt (omega arith)
+
+    pub scale-fits : (k : ℕ) → Fits w64 ((g - k) * (radius * 2 ^ 18 % 2 ^ 64))
+    scale-fits k =
+        let h : g - k ≤ 2 ^ 28 + 23 = omega (arith, inverse-is .most) in
+        rw raised-is (omega (arith, mul-le-mul h short))
+
+    pub scale-is : ScaleOf q radius (lowered g * (radius * 2 ^ 18 % 2 ^ 64) / 2 ^ (j / 2))
+    scale-is =
+        let k : ℕ = 2 ^ (18 - j / 2) in
+        let sum : 18 ≡ 18 - j / 2 + j / 2 = omega (arith, half-most) in
+        let power : 2 ^ 18 ≡ k * 2 ^ (j / 2) = ap (λ (x : ℕ). 2 ^ x) sum ∙ pow-add 2 (18 - j / 2) (j / 2) in
+        let w : lowered g * (radius * (k * 2 ^ (j / 2))) ≡ lowered g * (radius * k) * 2 ^ (j / 2) = omega arith in
+        record {
+          low = lowered g;
+          half = j / 2;
+          half-most = half-most;
+          inverse = inverse-is;
+          is = ap (λ (x : ℕ). lowered g * x / 2 ^ (j / 2)) (raised-is ∙ ap (λ (x : ℕ). radius * x) power)
+              ∙ ap (λ (x : ℕ). x / 2 ^ (j / 2)) w
+              ∙ mul-div-cancel (lowered g * (radius * k)) (pow-pos (j / 2));
+        }

@@ -6,11 +6,8 @@ use native.Mathlib.Nat.{mul-le-mul, mul-pos, mul-div-le, lt-mul-div-succ}
 use native.Mathlib.Decide.{decLe, decLt}
 use native.Mathlib.Omega.{arith}
 use lib.Pow.{pow-pos}
-use mir.Syntax.{w64}
-use mir.Val.{Fits}
 use Rattle.numbers.proofs.Ring.{E, v, #, _⊕_, _⊗_, _⊙_⊑_, nlin, nlin×}
-use Rattle.cutter.specs.Limits.{radiusMost}
-use Rattle.offset.specs.Inverse.{InverseOf, QuotientRange}
+use Rattle.offset.specs.Inverse.{lengthMost, InverseOf, QuotientRange}
 
 abbrev vn : E
 vn = v 0
@@ -40,7 +37,7 @@ module _ (n q low w t : ℕ) where
   ρ = n ∷ q ∷ low ∷ w ∷ t ∷ []
 
   -- 32 units of low make less than one of t
-  fine : 2 ^ 26 ≤ low → low * low * q ≤ 4 * (w * w) → n * n ≤ radiusMost * radiusMost * q → 32 * n ≤ w
+  fine : 2 ^ 26 ≤ low → low * low * q ≤ 4 * (w * w) → n * n ≤ lengthMost * lengthMost * q → 32 * n ≤ w
   fine least below small =
       by-cases (decLt w (32 * n))
       (λ h.
@@ -48,7 +45,7 @@ module _ (n q low w t : ℕ) where
       nlin ρ
       (# 4 ⊗ (vw ⊕ # 32 ⊗ vn) ⊙ vw ⊕ # 1 ⊑ # 32 ⊗ vn
       ∷ # 1 ⊙ vw ⊕ # 1 ⊑ # 32 ⊗ vn
-      ∷ # 4096 ⊙ vn ⊗ vn ⊑ # (radiusMost * radiusMost) ⊗ vq
+      ∷ # 4096 ⊙ vn ⊗ vn ⊑ # (lengthMost * lengthMost) ⊗ vq
       ∷ (vl ⊕ # 67108864) ⊗ vq ⊙ # 67108864 ⊑ vl
       ∷ # 1 ⊙ vl ⊗ vl ⊗ vq ⊑ # 4 ⊗ (vw ⊗ vw)
       ∷ [])
@@ -84,21 +81,18 @@ module _ (n q low w t : ℕ) where
       (λ h. omega arith)
 
 module _ (n q : ℕ) (ranges : QuotientRange n q) where
-  pub limit-fits : Fits w64 (4 * (n * n))
-  limit-fits = omega (arith, mul-le-mul (ranges .product-most) (ranges .product-most))
-
   -- where t is not above 2n over √q
   module _ (t : ℕ) (below : t * t * q ≤ 4 * (n * n)) where
-    -- it is at most twice the largest radius
-    pub start-most : t ≤ 2 * radiusMost
+    -- it is at most twice the largest length
+    pub start-most : t ≤ 2 * lengthMost
     start-most =
-        by-cases (decLt (2 * radiusMost) t)
+        by-cases (decLt (2 * lengthMost) t)
         (λ l.
         let no : 1 ≤ 0 =
         nlin (n ∷ q ∷ t ∷ [])
-        ((v 2 ⊕ # (2 * radiusMost)) ⊗ v 1 ⊙ # (2 * radiusMost + 1) ⊑ v 2
+        ((v 2 ⊕ # (2 * lengthMost)) ⊗ v 1 ⊙ # (2 * lengthMost + 1) ⊑ v 2
         ∷ # 1 ⊙ v 2 ⊗ v 2 ⊗ v 1 ⊑ # 4 ⊗ (v 0 ⊗ v 0)
-        ∷ # 4 ⊙ v 0 ⊗ v 0 ⊑ # (radiusMost * radiusMost) ⊗ v 1
+        ∷ # 4 ⊙ v 0 ⊗ v 0 ⊑ # (lengthMost * lengthMost) ⊗ v 1
         ∷ # 1 ⊙ # 1 ⊑ v 1
         ∷ [])
         (# 1) (# 0) tt (omega arith) in
@@ -106,9 +100,6 @@ module _ (n q : ℕ) (ranges : QuotientRange n q) where
         (λ l. omega arith)
 
   module _ (low shift : ℕ) (inverse : InverseOf q low shift) where
-    pub start-fits : Fits w64 (n * low)
-    start-fits = omega (arith, mul-le-mul (ranges .product-most) (inverse .most))
-
     -- the start is not above 2n over √q
     pub start-below : n * low / 2 ^ shift * (n * low / 2 ^ shift) * q ≤ 4 * (n * n)
     start-below =

@@ -7,6 +7,7 @@ use native.Mathlib.Omega.{arith}
 use lib.ListN.{length}
 use mir.Val.{Fits}
 use mir.Syntax.{w64}
+use Rattle.kinds.specs.Rounding.{modeOf}
 use Rattle.kinds.specs.declared.Mode.{Mode}
 use Rattle.kinds.specs.declared.Rule.{Rule}
 use Rattle.kinds.specs.declared.Rule.the-variants.{Touching}
@@ -40,6 +41,10 @@ row-fits w d row s h = omega (arith, row-most w d row s h)
 pub place-fits : (w d row n : ℕ) → Sizes w d → row < d - 2 → n < w - 2 → Fits w64 (row * (12 * (w - 2)) + n * 12)
 place-fits w d row n s h k = omega (arith, row-most w d row s h, s .narrow)
 
+-- a row that is held has a place for each
+pub place-held : (w d n : ℕ) → Sizes w d → n < w - 2 → n < 64
+place-held w d n s h = omega (arith, s .narrow)
+
 -- ---- their records
 
 pub length-row-record : (rule : Rule) (mode : Mode) (m : List ℕ) (k row n : ℕ) → length (rowRecord rule mode m k row n) ≡ 12
@@ -71,7 +76,7 @@ row-room k rows row n h r =
     omega arith
 
 module _ (mode : Mode) (m : List ℕ) (t : Fields) (row : ℕ) (l₀ : List ℕ) where
-  pub points-more : (l l₁ : List ℕ) (n : ℕ) → 12 * countOf (t .width) (t .depth) ≤ length l₀ → row < t .depth - 2 → Ready m t
+  points-more : (l l₁ : List ℕ) (n : ℕ) → 12 * countOf (t .width) (t .depth) ≤ length l₀ → row < t .depth - 2 → Ready m t
       → Written (rowRecord Touching mode m (t .width - 2) row) (row * (12 * (t .width - 2))) (t .width - 2) l₀ l n → n < t .width - 2
       → l₁ ≡ splice (row * (12 * (t .width - 2)) + n * 12) (recordBytes (centreOf mode (t .step) (t .radius) (pointAt m (t .width) (n + 1) (row + 1)))) l
       → length l₁ ≡ length l → Written (rowRecord Touching mode m (t .width - 2) row) (row * (12 * (t .width - 2))) (t .width - 2) l₀ l₁ (n + 1)
@@ -82,6 +87,21 @@ module _ (mode : Mode) (m : List ℕ) (t : Fields) (row : ℕ) (l₀ : List ℕ)
       (e ∙ ap (λ (b : List ℕ). splice (at + n * 12) b l) (record-is Touching mode m t n row (a .is) more))
       long
 
+  -- a point at a rounding that is known, where the ways of the roundings meet
+  pub points-known : (known : Mode) (l l₁ l₂ : List ℕ) (n : ℕ) → mode ≡ known → 12 * countOf (t .width) (t .depth) ≤ length l₀ → row < t .depth - 2
+      → Ready m t → Written (rowRecord Touching mode m (t .width - 2) row) (row * (12 * (t .width - 2))) (t .width - 2) l₀ l n → n < t .width - 2
+      → l₁ ≡ splice (row * (12 * (t .width - 2)) + n * 12) (recordBytes (centreOf known (t .step) (t .radius) (pointAt m (t .width) (n + 1) (row + 1)))) l
+      → length l₁ ≡ length l → l₂ ≡ l₁
+      → Written (rowRecord Touching mode m (t .width - 2) row) (row * (12 * (t .width - 2))) (t .width - 2) l₀ l₂ (n + 1)
+  points-known known l l₁ l₂ n z h r a v more e long same =
+      points-more l l₂ n h r a v more
+      (same
+      ∙ e
+      ∙ ap
+      (λ (x : Mode). splice (row * (12 * (t .width - 2)) + n * 12) (recordBytes (centreOf x (t .step) (t .radius) (pointAt m (t .width) (n + 1) (row + 1)))) l)
+      (sym z))
+      (ap length same ∙ long)
+
   pub point-room : (l : List ℕ) (n : ℕ) → 12 * countOf (t .width) (t .depth) ≤ length l₀ → row < t .depth - 2
       → Written (rowRecord Touching mode m (t .width - 2) row) (row * (12 * (t .width - 2))) (t .width - 2) l₀ l n → n < t .width - 2
       → row * (12 * (t .width - 2)) + n * 12 + 12 ≤ length l
@@ -91,6 +111,13 @@ module _ (mode : Mode) (m : List ℕ) (t : Fields) (row : ℕ) (l₀ : List ℕ)
       → t .width - 2 ≤ n → l ≡ splice (row * (12 * (t .width - 2))) (rowBytes Touching mode m (t .width - 2) row) l₀
   unfolding rowBytes
   row-put l n v h = written-all (rowRecord Touching mode m (t .width - 2) row) (row * (12 * (t .width - 2))) (t .width - 2) l₀ l n v h
+
+-- a record put at the rounding with a number
+pub put-known : (mode : Mode) (number : ℕ) (m : List ℕ) (t : Fields) (at n row : ℕ) (l l₁ : List ℕ) → mode ≡ modeOf number
+    → l₁ ≡ splice at (recordBytes (centreOf mode (t .step) (t .radius) (pointAt m (t .width) (n + 1) (row + 1)))) l
+    → l₁ ≡ splice at (recordBytes (centreOf (modeOf number) (t .step) (t .radius) (pointAt m (t .width) (n + 1) (row + 1)))) l
+put-known mode number m t at n row l l₁ z e =
+    e ∙ ap (λ (x : Mode). splice at (recordBytes (centreOf x (t .step) (t .radius) (pointAt m (t .width) (n + 1) (row + 1)))) l) z
 
 -- ---- all rows
 

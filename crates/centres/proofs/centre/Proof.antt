@@ -6,9 +6,6 @@ use Rattle.maps.proofs.Places.{place-fits, line-fits}
 use Rattle.centres.proofs.centre.Statement.{statement}
 use Rattle.centres.proofs.centre.Tie as tie
 
-normal-at-requires : tie.Need-normal-at-requires
-normal-at-requires c κs = search needs
-
 offsets-of-requires : tie.Need-offsets-of-requires
 offsets-of-requires c κs = search needs
 
@@ -46,7 +43,6 @@ pub centre-spec : {M : Type 1} → statement M
 centre-spec =
     tie.close
     (tie.spec
-    normal-at-requires
     offsets-of-requires
     mul-height-word
     add-height-word

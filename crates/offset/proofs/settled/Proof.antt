@@ -1,7 +1,6 @@
--- `offset::settled` meets its contract: each return is one way of the test. Assumes nothing.
+-- `offset::settled` meets its contract: the sign of the difference is the test. Assumes nothing.
 use borrow.Author.Needs.{needs}
-use Rattle.offset.proofs.Start.{limit-fits as squares-fit}
-use Rattle.offset.proofs.Settling.{sum-fits, double-fits, middle-fits, square-fits, product-fits, limit-fits, settled-next, settled-same}
+use Rattle.offset.proofs.Settling.{radius-fits, limit-fits, square-fits, settled-so}
 use Rattle.offset.proofs.settled.Statement.{statement}
 use Rattle.offset.proofs.settled.Tie as tie
 
@@ -9,40 +8,43 @@ sub-t : tie.Need-sub-t
 sub-t c = search needs
 
 add-t : tie.Need-add-t
-add-t c = search sum-fits
+add-t c = search needs
 
 mul-m : tie.Need-mul-m
-mul-m c = search double-fits
+mul-m c = search needs
 
 add-m : tie.Need-add-m
-add-m c = search middle-fits
+add-m c = search needs
 
-mul-if1 : tie.Need-mul-if1
-mul-if1 c = search square-fits
+mul-low-product : tie.Need-mul-low-product
+mul-low-product c = search radius-fits
 
-mul-if1-2 : tie.Need-mul-if1-2
-mul-if1-2 c = search product-fits
+mul-low-product-2 : tie.Need-mul-low-product-2
+mul-low-product-2 c = search limit-fits
 
-mul-if1-3 : tie.Need-mul-if1-3
-mul-if1-3 c = search needs
+low-product-requires : tie.Need-low-product-requires
+low-product-requires c κs = search needs
 
-mul-if1-4 : tie.Need-mul-if1-4
-mul-if1-4 c = search squares-fit
+add-wrapping-add-u64 : tie.Need-add-wrapping-add-u64
+add-wrapping-add-u64 c = search needs
 
-add-if1 : tie.Need-add-if1
-add-if1 c = search needs
+wrapping-add-u64-requires : tie.Need-wrapping-add-u64-requires
+wrapping-add-u64-requires c κs = search needs
 
-add-if1-2 : tie.Need-add-if1-2
-add-if1-2 c = search limit-fits
+mul-low-product-3 : tie.Need-mul-low-product-3
+mul-low-product-3 c = search square-fits
+
+low-product-requires-2 : tie.Need-low-product-requires-2
+low-product-requires-2 c κs = search needs
+
+sign-of-requires : tie.Need-sign-of-requires
+sign-of-requires c κs = search needs
 
 add-result : tie.Need-add-result
 add-result c = search needs
 
 returns : tie.Need-returns
-returns c = search settled-next
-
-returns-2 : tie.Need-returns-2
-returns-2 c = search settled-same
+returns c = search settled-so
 
 pub settled-spec : {M : Type 1} → statement M
 settled-spec =
@@ -52,12 +54,13 @@ settled-spec =
     add-t
     mul-m
     add-m
-    mul-if1
-    mul-if1-2
-    mul-if1-3
-    mul-if1-4
-    add-if1
-    add-if1-2
+    mul-low-product
+    mul-low-product-2
+    low-product-requires
+    add-wrapping-add-u64
+    wrapping-add-u64-requires
+    mul-low-product-3
+    low-product-requires-2
+    sign-of-requires
     add-result
-    returns
-    returns-2)
+    returns)

@@ -1,6 +1,6 @@
 -- `offset::settled_by` meets its contract: each call is at the rest of its rounding. Assumes nothing.
-use Rattle.offset.proofs.Settling.{by-nearest, by-up, by-down, by-zero}
 use borrow.Author.Needs.{needs}
+use Rattle.offset.proofs.Settling.{bit-most, by-nearest, by-up, by-down, by-zero}
 use Rattle.offset.proofs.settled_by.Statement.{statement}
 use Rattle.offset.proofs.settled_by.Tie as tie
 
@@ -13,26 +13,26 @@ settled-requires c κs = search needs
 enum-told-2 : tie.Need-enum-told-2
 enum-told-2 c = search needs
 
-rest-if-requires : tie.Need-rest-if-requires
-rest-if-requires c κs = search needs
+cast-settled-whole : tie.Need-cast-settled-whole
+cast-settled-whole c = search needs
 
-settled-requires-2 : tie.Need-settled-requires-2
-settled-requires-2 c κs = search needs
+settled-whole-requires : tie.Need-settled-whole-requires
+settled-whole-requires c κs = (search bit-most, search needs, search needs)
 
 enum-told-3 : tie.Need-enum-told-3
 enum-told-3 c = search needs
 
-rest-if-requires-2 : tie.Need-rest-if-requires-2
-rest-if-requires-2 c κs = search needs
+cast-settled-whole-2 : tie.Need-cast-settled-whole-2
+cast-settled-whole-2 c = search needs
 
-settled-requires-3 : tie.Need-settled-requires-3
-settled-requires-3 c κs = search needs
+settled-whole-requires-2 : tie.Need-settled-whole-requires-2
+settled-whole-requires-2 c κs = (search bit-most, search needs, search needs)
 
 enum-told-4 : tie.Need-enum-told-4
 enum-told-4 c = search needs
 
-settled-requires-4 : tie.Need-settled-requires-4
-settled-requires-4 c κs = search needs
+settled-whole-requires-3 : tie.Need-settled-whole-requires-3
+settled-whole-requires-3 c κs = search needs
 
 returns : tie.Need-returns
 returns c = search by-nearest
@@ -53,13 +53,13 @@ settled-by-spec =
     enum-told
     settled-requires
     enum-told-2
-    rest-if-requires
-    settled-requires-2
+    cast-settled-whole
+    settled-whole-requires
     enum-told-3
-    rest-if-requires-2
-    settled-requires-3
+    cast-settled-whole-2
+    settled-whole-requires-2
     enum-told-4
-    settled-requires-4
+    settled-whole-requires-3
     returns
     returns-2
     returns-3

@@ -1,46 +1,50 @@
--- `rows::put_row` meets its contract: after n turns the row's first n records are put. Assumes nothing.
+-- `rows::put_row` meets its contract: after n turns the row's first n records are put, each at its rounding. Assumes nothing.
+use mathlib.Core.Logic.{⊎-elim}
 use Prim.Native.Nat.{_-_, _*_}
 use Rattle.kinds.specs.declared.Rule.the-variants.{Touching}
 use borrow.Author.Needs.{needs}
-use Rattle.rows.proofs.RowRecords.{inner-of, row-fits, place-fits, points-more, point-room, row-put}
+use Rattle.rows.proofs.RowRecords.{points-known, point-room, row-put}
 use Rattle.rows.specs.Row.{rowRecord}
 use Rattle.words.proofs.Runs.{Written, written-none}
 use Rattle.rows.proofs.put_row.Statement.{statement}
 use Rattle.rows.proofs.put_row.Tie as tie
 
 abbrev Inv-loop : tie.InvT-loop
-Inv-loop mode map out₀ trailer row count first n₀ out n =
+Inv-loop mode map out₀ held trailer row count n₀ out n =
     Written (rowRecord Touching mode map (trailer .width - 2) row) (row * (12 * (trailer .width - 2))) (trailer .width - 2) out₀ out n
 
 abbrev μ-loop : tie.MeasureT-loop
-μ-loop mode map out₀ trailer row count first n₀ out n = trailer .width - 2 - n
+μ-loop mode map out₀ held trailer row count n₀ out n = trailer .width - 2 - n
 
 sub-count : tie.Need-sub-count Inv-loop μ-loop
 sub-count c = search needs
 
-mul-first : tie.Need-mul-first Inv-loop μ-loop
-mul-first c = search needs
-
-mul-first-2 : tie.Need-mul-first-2 Inv-loop μ-loop
-mul-first-2 c = search row-fits
-
 loop-holds : tie.Need-loop-holds Inv-loop μ-loop
 loop-holds c = search written-none
 
-add-put-point : tie.Need-add-put-point Inv-loop μ-loop
-add-put-point c = search needs
+enum-told : tie.Need-enum-told Inv-loop μ-loop
+enum-told c = search needs
 
-add-put-point-2 : tie.Need-add-put-point-2 Inv-loop μ-loop
-add-put-point-2 c = search needs
+put-held-requires : tie.Need-put-held-requires Inv-loop μ-loop
+put-held-requires c κs = (search needs, (search needs, (search point-room, search needs)))
 
-mul-put-point : tie.Need-mul-put-point Inv-loop μ-loop
-mul-put-point c = search needs
+enum-told-2 : tie.Need-enum-told-2 Inv-loop μ-loop
+enum-told-2 c = search needs
 
-add-put-point-3 : tie.Need-add-put-point-3 Inv-loop μ-loop
-add-put-point-3 c = search place-fits
+put-held-requires-2 : tie.Need-put-held-requires-2 Inv-loop μ-loop
+put-held-requires-2 c κs = (search needs, (search needs, (search point-room, search needs)))
 
-put-point-requires : tie.Need-put-point-requires Inv-loop μ-loop
-put-point-requires c κs = (search needs, (search inner-of, search point-room))
+enum-told-3 : tie.Need-enum-told-3 Inv-loop μ-loop
+enum-told-3 c = search needs
+
+put-held-requires-3 : tie.Need-put-held-requires-3 Inv-loop μ-loop
+put-held-requires-3 c κs = (search needs, (search needs, (search point-room, search needs)))
+
+enum-told-4 : tie.Need-enum-told-4 Inv-loop μ-loop
+enum-told-4 c = search needs
+
+put-held-requires-4 : tie.Need-put-held-requires-4 Inv-loop μ-loop
+put-held-requires-4 c κs = (search needs, (search needs, (search point-room, search needs)))
 
 add-n : tie.Need-add-n Inv-loop μ-loop
 add-n c = search needs
@@ -49,7 +53,10 @@ loop-less : tie.Need-loop-less Inv-loop μ-loop
 loop-less c = search needs
 
 loop-again : tie.Need-loop-again Inv-loop μ-loop
-loop-again c = search points-more
+loop-again c =
+    ⊎-elim (λ w. search points-known)
+    (⊎-elim (λ w. search points-known) (⊎-elim (λ w. search points-known) (λ w. search points-known)))
+    (c .match .came)
 
 same-length : tie.Need-same-length Inv-loop μ-loop
 same-length c = search needs
@@ -64,14 +71,15 @@ put-row-spec =
     Inv-loop
     μ-loop
     sub-count
-    mul-first
-    mul-first-2
     loop-holds
-    add-put-point
-    add-put-point-2
-    mul-put-point
-    add-put-point-3
-    put-point-requires
+    enum-told
+    put-held-requires
+    enum-told-2
+    put-held-requires-2
+    enum-told-3
+    put-held-requires-3
+    enum-told-4
+    put-held-requires-4
     add-n
     loop-less
     loop-again
