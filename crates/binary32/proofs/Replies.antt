@@ -1,34 +1,76 @@
 -- The reply of a call that is refused or accepted. Assumes nothing.
-use mathlib.Core.Path.{_≡_, sym, _∙_}
-use Prim.Native.Nat.{ℕ, _%_}
-use lib.Bits.{bitOr}
+use mathlib.Core.Path.{_≡_, refl, sym, _∙_}
+use mathlib.Core.Bool.{Bool, true, false, true≢false, not, _||_, or-true}
+use mathlib.Core.Logic.{by-cases}
+use Prim.Native.Nat.{ℕ}
+use native.Mathlib.Decide.{decLt}
+use native.Mathlib.Omega.{arith}
+use borrow.Author.Tests.{not-false, le-leb, lt-leb}
+use Rattle.kinds.specs.declared.Op.{Op}
 use Rattle.kinds.specs.declared.Mode.{Mode}
-use Rattle.kinds.specs.Operation.{opOf}
-use Rattle.kinds.specs.Rounding.{modeOf}
+use Rattle.kinds.specs.Operation.{isOperation, opOf}
+use Rattle.kinds.specs.Rounding.{isRounding, modeOf}
+use Rattle.kinds.specs.Question.{ask}
 use Rattle.ieee.specs.Format.{binary32}
 use Rattle.ieee.specs.Answer.{answerOf}
 use Rattle.ieee.specs.Call.{binary32Refusal}
 use Rattle.ieee.proofs.Accepted.{accepted-bits, refused-bits, refused-status}
 use Rattle.ieee.proofs.Flags.{status-joined}
+use Rattle.binary32.specs.declared.Reply.{Reply}
 use Rattle.binary32.specs.declared.Rounded.{Rounded}
 use Rattle.binary32.specs.Answer.{roundedAnswer}
-use Rattle.binary32.specs.Reply.{replyTo}
+use Rattle.binary32.specs.Reply.{replyTo, acceptedReply, refusedReply}
 
-module _ (operation rounding b status n : ℕ) (e : n ≡ binary32Refusal operation rounding) where
-  pub refused : (n ≡ 0 → ⊥) → record { refusal = n; bits = 0; status = status } ≡ replyTo operation rounding b status
-  refused h =
-      rw (← e, refused-bits binary32 n (opOf operation) (modeOf rounding) b h, refused-status binary32 n (opOf operation) (modeOf rounding) b h status)
+-- no number but 1, 2 and 3 is an operation's
+unknown : (n : ℕ) → (n ≡ 1 → ⊥) → (n ≡ 2 → ⊥) → (n ≡ 3 → ⊥) → isOperation n ≡ false
+unknown n a b c =
+    by-cases (decLt n 1) (λ l. rw (lt-leb 1 n l))
+    (λ l. rw (le-leb 1 n (omega arith), lt-leb n 3 (omega (arith, a, b, c))))
 
-  pub answered : (mode : Mode) (r : Rounded) (s : ℕ) → n ≡ 0 → mode ≡ modeOf rounding
-      → r ≡ roundedAnswer (answerOf binary32 (opOf operation) mode b) → s ≡ bitOr (status % 32) (r .flags % 32)
-      → record { refusal = n; bits = r .bits; status = s } ≡ replyTo operation rounding b status
-  answered mode r s z q f g =
-      let yes : binary32Refusal operation rounding ≡ 0 = sym e ∙ z in
-      rw (
-        e,
-        g,
-        status-joined binary32 _ (opOf operation) (modeOf rounding) b status (r .flags) yes (rw (f, q)),
+-- a "no" has a number, and two "yes" have none
+numbered : (a c : Bool) → not a || not c ≡ true → ask a 1 (ask c 2 0) ≡ 0 → ⊥
+unfolding ask
+numbered true true e z = true≢false (sym e)
+numbered true false e z = omega arith
+numbered false c e z = omega arith
+
+none : (a c : Bool) → a ≡ true → c ≡ true → ask a 1 (ask c 2 0) ≡ 0
+unfolding ask
+none true true e f = refl
+none true false e f = absurd (true≢false (sym f))
+none false c e f = absurd (true≢false (sym e))
+
+module _ (operation rounding b status : ℕ) where
+  refuses : not (isOperation operation) || not (isRounding rounding) ≡ true → refusedReply operation rounding status ≡ replyTo operation rounding b status
+  unfolding binary32Refusal
+  refuses e =
+      let h = numbered (isOperation operation) (isRounding rounding) e in
+      rw (refused-bits binary32 _ (opOf operation) (modeOf rounding) b h, refused-status binary32 _ (opOf operation) (modeOf rounding) b h status)
+
+  -- refused by question 2, or by question 1
+  pub rounding-refused : (known : Bool) (v : Reply) → known ≡ isRounding rounding → not known ≡ true → v ≡ refusedReply operation rounding status
+      → v ≡ replyTo operation rounding b status
+  rounding-refused known v e h f = f ∙ refuses (rw (← e, h) (or-true (not (isOperation operation))))
+
+  pub operation-refused : (v : Reply) → (operation ≡ 1 → ⊥) → (operation ≡ 2 → ⊥) → (operation ≡ 3 → ⊥) → v ≡ refusedReply operation rounding status
+      → v ≡ replyTo operation rounding b status
+  operation-refused v a c d f = f ∙ refuses (rw (unknown operation a c d))
+
+-- accepted, by the operation
+module _ (n : ℕ) (op : Op) (known : isOperation n ≡ true) (named : op ≡ opOf n) (operation rounding b status : ℕ) where
+  pub answered : (mode : Mode) (second : Bool) (r : Rounded) (v : Reply) → operation ≡ n → second ≡ isRounding rounding → not second ≡ false → mode ≡ modeOf rounding
+      → r ≡ roundedAnswer (answerOf binary32 op mode b) → v ≡ acceptedReply status r → v ≡ replyTo operation rounding b status
+  unfolding binary32Refusal
+  answered mode second r v o e h q f g =
+      let p : op ≡ opOf operation = rw o named in
+      let first : isOperation operation ≡ true = rw o known in
+      let yes : binary32Refusal operation rounding ≡ 0 = none (isOperation operation) (isRounding rounding) first (sym e ∙ not-false second h) in
+      g
+      ∙ rw (
+        status-joined binary32 _ (opOf operation) (modeOf rounding) b status (r .flags) yes (rw (f, p, q)),
         accepted-bits binary32 _ (opOf operation) (modeOf rounding) b yes,
+        yes,
         f,
+        p,
         q,
       )

@@ -4,7 +4,6 @@ mod normal;
 
 ghost use mathlib.Core.Path.{_≡_};
 ghost use Prim.Native.Nat.{_+_, _*_, _^_, _<_};
-ghost use Rattle.kinds.specs.Operation.{opOf};
 ghost use Rattle.ieee.specs.Format.{binary32};
 ghost use Rattle.kinds.specs.declared.Op.the-variants.{Reciprocal, Root, InverseRoot};
 ghost use Rattle.ieee.specs.Answer.{answerOf, toFinite};
@@ -14,7 +13,7 @@ ghost use Rattle.pattern.specs.Operand.{Ordinary};
 ghost use Rattle.pattern.specs.Parts.{FieldsOf};
 ghost use Rattle.binary32.specs.Answer.{roundedAnswer, Packed, unpackedFrom};
 ghost use Rattle.binary32.specs.Normal.{isPlain};
-ghost use Rattle.binary32.specs.Reply.{replyTo};
+ghost use Rattle.binary32.specs.Reply.{replyTo, acceptedReply, refusedReply};
 use estimate::estimate_of;
 use floors::floor_of;
 use kinds::Mode;
@@ -49,23 +48,41 @@ pub struct Reply {
     pub status: u8,
 }
 
-// The binary32 call: the questions first, on numbers as they come; then the work, whose flags are joined to the status.
+// The binary32 call. Whether it is accepted is told by branches, and the number of a refusal is worked out only behind them. Where the
+// operand and the result are normal numbers an operation works the short way, of which each has its own, and else apart.
 pub fn call(operation: u8, rounding: u8, bits: u32, status: u8) -> Reply
     ensures { λ r. ⌜ r ≡ replyTo operation rounding bits status ⌝ }
 {
-    let refusal = refusal(operation, rounding);
-    if refusal != 0 {
-        return Reply {
-            refusal,
-            bits: 0,
-            status,
-        };
+    if !Mode::is_number(rounding) {
+        return refused(operation, rounding, status);
     }
-    let rounded = answer(operation, Mode::of(rounding), bits);
+    match operation {
+        1 => accepted(status, reciprocal(Mode::of(rounding), bits)),
+        2 => accepted(status, root(Mode::of(rounding), bits)),
+        3 => accepted(status, inverse_root(Mode::of(rounding), bits)),
+        _ => refused(operation, rounding, status),
+    }
+}
+
+// An answer, whose flags are joined to the status.
+fn accepted(status: u8, r: Rounded) -> Reply
+    ensures { λ a. ⌜ a ≡ acceptedReply status r ⌝ }
+{
     Reply {
-        refusal,
-        bits: rounded.bits,
-        status: joined(status, rounded.flags),
+        refusal: 0,
+        bits: r.bits,
+        status: joined(status, r.flags),
+    }
+}
+
+// A refusal, with bits 0 and the status as given.
+fn refused(operation: u8, rounding: u8, status: u8) -> Reply
+    ensures { λ r. ⌜ r ≡ refusedReply operation rounding status ⌝ }
+{
+    Reply {
+        refusal: refusal(operation, rounding),
+        bits: 0,
+        status,
     }
 }
 
@@ -76,18 +93,6 @@ fn refusal(operation: u8, rounding: u8) -> u8
     let known = Op::is_number(operation);
     let second = ask(Mode::is_number(rounding), 2, 0);
     ask(known, 1, second)
-}
-
-// The answer of an operation by its number, once question 1 is asked. Where the operand and the result are normal numbers it is worked out
-// the short way, of which each operation has its own, and else apart.
-fn answer(operation: u8, mode: Mode, bits: u32) -> Rounded
-    ensures { λ r. ⌜ r ≡ roundedAnswer (answerOf binary32 (opOf operation) mode bits) ⌝ }
-{
-    match operation {
-        1 => reciprocal(mode, bits),
-        2 => root(mode, bits),
-        _ => inverse_root(mode, bits),
-    }
 }
 
 fn reciprocal(mode: Mode, bits: u32) -> Rounded
