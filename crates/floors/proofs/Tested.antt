@@ -20,7 +20,7 @@ use Rattle.ieee.specs.Floor.{targetOf, Floored, takenBy}
 use Rattle.ieee.proofs.Targets.{quotient-small, quotient-large}
 use Rattle.ieee.proofs.Whole.{never-half}
 use Rattle.ieee.proofs.Taken.{taken-by}
-use Rattle.floors.specs.Taken.{TakenOf}
+use Rattle.floors.specs.Taken.{TakenOf, carriedBy}
 use Rattle.floors.specs.declared.taken.Taken.{Taken}
 use Rattle.floors.specs.declared.Floor.{Floor}
 use Rattle.floors.proofs.Between.{strideOf, side-under, side-over}
@@ -208,23 +208,19 @@ pub root-taken-is : (y x rest n : ℕ) (f : Floor) → Floored Root y x (f .quot
 root-taken-is y x rest n f F e = record { floor = f .quotient; floored = F; is = e }
 
 -- which is not negative
-module _ (mode : Mode) (q : ℕ) (more : Bool) where
-  pub root-nearest : mode ≡ Nearest → (q + 1) / 2 ≡ takenBy (restOf mode false) q more
-  unfolding takenBy restOf
-  root-nearest o = rw o
+pub root-carried : (mode : Mode) (q c : ℕ) (more : Bool) → c ≡ carriedBy mode more → (q + c) / 2 ≡ takenBy (restOf mode false) q more
+unfolding takenBy restOf
+root-carried Nearest q c more e = rw e
+root-carried Up q c more e = rw e (omega arith)
+root-carried Down q c more e = rw e (omega arith)
+root-carried TowardZero q c more e = rw e (omega arith)
 
-  pub root-up : mode ≡ Up → (q + 1 + boolByte more) / 2 ≡ takenBy (restOf mode false) q more
-  unfolding takenBy restOf
-  root-up o = rw o (go more)
-    where
-      go : (b : Bool) → (q + 1 + boolByte b) / 2 ≡ (q + 1 + cond b 1 0) / 2
-      go true = refl
-      go false = refl
+pub up-carried : (mode : Mode) (more : Bool) → mode ≡ Up → 1 + boolByte more ≡ carriedBy mode more
+up-carried mode more o = rw o (go more)
+  where
+    go : (b : Bool) → 1 + boolByte b ≡ 1 + cond b 1 0
+    go true = refl
+    go false = refl
 
-  pub root-down : mode ≡ Down → q / 2 ≡ takenBy (restOf mode false) q more
-  unfolding takenBy restOf
-  root-down o = rw o
-
-  pub root-zero : mode ≡ TowardZero → q / 2 ≡ takenBy (restOf mode false) q more
-  unfolding takenBy restOf
-  root-zero o = rw o
+pub up-most : (more : Bool) → 1 + boolByte more ≤ 2
+up-most more = omega (arith, bit-most more)

@@ -8,7 +8,7 @@ ghost use Rattle.kinds.specs.Guard.{restOf};
 ghost use Rattle.significand.specs.Width.{k32, t32, Significand};
 ghost use Rattle.significand.specs.Distance.{Between};
 ghost use Rattle.ieee.specs.Floor.{targetOf, takenBy};
-ghost use Rattle.floors.specs.Taken.{TakenOf};
+ghost use Rattle.floors.specs.Taken.{TakenOf, carriedBy};
 use crate::HALF;
 use crate::LEAST_SIGNIFICAND;
 use crate::WHOLE;
@@ -77,15 +77,22 @@ pub fn root_taken(mode: Mode, y: u64, p: u64, g: u64) -> Taken
     }
 }
 
+// Half of the floor and of what the rounding carries into it.
 fn root_by(mode: Mode, q: u64, more: bool) -> u64
     requires { ⌜ q < 2 ^ 63 ⌝ }
     ensures { λ r. ⌜ r ≡ takenBy (restOf mode false) q more ⌝ }
 {
+    (q + carried(mode, more)) / 2
+}
+
+fn carried(mode: Mode, more: bool) -> u64
+    ensures { λ r. ⌜ (r ≡ carriedBy mode more) × (r ≤ 2) ⌝ }
+{
     match mode {
-        Mode::Nearest => (q + 1) / 2,
-        Mode::Up => (q + 1 + more as u64) / 2,
-        Mode::Down => q / 2,
-        Mode::TowardZero => q / 2,
+        Mode::Nearest => 1,
+        Mode::Up => 1 + more as u64,
+        Mode::Down => 0,
+        Mode::TowardZero => 0,
     }
 }
 
