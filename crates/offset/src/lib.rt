@@ -5,7 +5,6 @@ use std::num::wrapping_add_u64;
 use std::num::wrapping_sub_u64;
 use wide::low_product;
 ghost use mathlib.Core.Path.{_≡_};
-ghost use mathlib.Core.Bool.{cond};
 ghost use Prim.Native.Nat.{_*_, _^_, _≤_, _<_};
 ghost use Rattle.kinds.specs.Guard.{restOf};
 ghost use Rattle.cutter.specs.Offset.{roundedOver};
