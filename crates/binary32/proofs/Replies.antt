@@ -1,8 +1,8 @@
 -- The reply of a call that is refused or accepted. Assumes nothing.
-use mathlib.Core.Path.{_≡_, refl, sym, _∙_}
+use mathlib.Core.Path.{_≡_, refl, sym, ap, _∙_}
 use mathlib.Core.Bool.{Bool, true, false, true≢false, not, _||_, or-true}
 use mathlib.Core.Logic.{by-cases}
-use Prim.Native.Nat.{ℕ}
+use Prim.Native.Nat.{ℕ, _+_, _*_, _/_, _%_, _^_, _<_}
 use native.Mathlib.Decide.{decLt}
 use native.Mathlib.Omega.{arith}
 use borrow.Author.Tests.{not-false, le-leb, lt-leb}
@@ -12,14 +12,14 @@ use Rattle.kinds.specs.Operation.{isOperation, opOf}
 use Rattle.kinds.specs.Rounding.{isRounding, modeOf}
 use Rattle.kinds.specs.Question.{ask}
 use Rattle.ieee.specs.Format.{binary32}
-use Rattle.ieee.specs.Answer.{answerOf}
+use Rattle.ieee.specs.Answer.{Answer, answer, answerOf}
 use Rattle.ieee.specs.Call.{binary32Refusal}
 use Rattle.ieee.proofs.Accepted.{accepted-bits, refused-bits, refused-status}
 use Rattle.ieee.proofs.Flags.{status-joined}
 use Rattle.binary32.specs.declared.Reply.{Reply}
-use Rattle.binary32.specs.declared.Rounded.{Rounded}
-use Rattle.binary32.specs.Answer.{roundedAnswer}
-use Rattle.binary32.specs.Reply.{replyTo, acceptedReply, refusedReply}
+use Rattle.pattern.specs.Answer.{Answered}
+use Rattle.pattern.specs.declared.answer.Rounded.{Rounded}
+use Rattle.binary32.specs.Reply.{replyTo, acceptedReply, refusedReply, Packed, unpackedFrom}
 
 -- no number but 1, 2 and 3 is an operation's
 unknown : (n : ℕ) → (n ≡ 1 → ⊥) → (n ≡ 2 → ⊥) → (n ≡ 3 → ⊥) → isOperation n ≡ false
@@ -58,19 +58,34 @@ module _ (operation rounding b status : ℕ) where
 
 -- accepted, by the operation
 module _ (n : ℕ) (op : Op) (known : isOperation n ≡ true) (named : op ≡ opOf n) (operation rounding b status : ℕ) where
-  pub answered : (mode : Mode) (second : Bool) (r : Rounded) (v : Reply) → operation ≡ n → second ≡ isRounding rounding → not second ≡ false → mode ≡ modeOf rounding
-      → r ≡ roundedAnswer (answerOf binary32 op mode b) → v ≡ acceptedReply status r → v ≡ replyTo operation rounding b status
+  pub answered : (mode : Mode) (second : Bool) (v : Reply) → operation ≡ n → second ≡ isRounding rounding → not second ≡ false → mode ≡ modeOf rounding
+      → v ≡ acceptedReply status (answerOf binary32 op mode b) → v ≡ replyTo operation rounding b status
   unfolding binary32Refusal
-  answered mode second r v o e h q f g =
+  answered mode second v o e h q g =
       let p : op ≡ opOf operation = rw o named in
       let first : isOperation operation ≡ true = rw o known in
       let yes : binary32Refusal operation rounding ≡ 0 = none (isOperation operation) (isRounding rounding) first (sym e ∙ not-false second h) in
       g
       ∙ rw (
-        status-joined binary32 _ (opOf operation) (modeOf rounding) b status (r .flags) yes (rw (f, p, q)),
-        accepted-bits binary32 _ (opOf operation) (modeOf rounding) b yes,
-        yes,
-        f,
         p,
         q,
+        status-joined binary32 _ (opOf operation) (modeOf rounding) b status _ yes refl,
+        accepted-bits binary32 _ (opOf operation) (modeOf rounding) b yes,
+        yes,
       )
+
+-- an answer as code returns it
+module _ (status : ℕ) (a : Answer) (r : Rounded) (h : Answered binary32 a r) (v : Reply) (e : v ≡ acceptedReply status (answer (r .bits) (r .flags))) where
+  pub accepted-is : v ≡ acceptedReply status a
+  accepted-is = e ∙ rw (h .bits-are, h .flags-are)
+
+  -- in one number,
+  pub packed-is : (n : ℕ) → n ≡ v .status * 2 ^ 32 + v .bits → n < 2 ^ 40 → Packed (acceptedReply status a) n
+  packed-is n f small = record { is = f ∙ ap (λ s. s .status * 2 ^ 32 + s .bits) accepted-is; short = rw (← h .bits-are) (h .pattern); small = small }
+
+-- and back from it
+pub unpacked-is : (status : ℕ) (a : Answer) (n : ℕ) (v : Reply) → Packed (acceptedReply status a) n → v ≡ unpackedFrom n → v ≡ acceptedReply status a
+unpacked-is status a n v h e =
+    let low : n % 2 ^ 32 ≡ a .bits = omega (arith, h .is, h .short) in
+    let high : n / 2 ^ 32 ≡ acceptedReply status a .status = omega (arith, h .is, h .short) in
+    e ∙ rw (low, high)

@@ -1,4 +1,2 @@
-pub mod Answer
-pub mod Estimate
 pub mod Normal
 pub mod Reply

@@ -1,32 +1,12 @@
--- Operands whose results are normal numbers, whatever the rounding. Assumes nothing.
-use mathlib.Core.Path.{_≡_}
-use mathlib.Core.Bool.{Bool, false, _&&_}
-use Prim.Native.Nat.{ℕ, _+_, _≤_, _<_}
+-- The test that an operand and its result are normal numbers, whatever the rounding. Assumes nothing.
+use mathlib.Core.Bool.{Bool, _&&_}
+use Prim.Native.Nat.{ℕ}
 use lib.Dec.{leb, ltb}
 use Rattle.kinds.specs.declared.Op.{Op}
 use Rattle.kinds.specs.declared.Op.the-variants.{Reciprocal, Root, InverseRoot}
-use Rattle.kinds.specs.Operation.{isReciprocal}
-use Rattle.ieee.specs.Format.{binary32}
-use Rattle.ieee.specs.Floor.{scaleOf}
-use Rattle.ieee.specs.Answer.{isSpecial}
-use Rattle.pattern.specs.Parts.{FieldsOf}
-use Rattle.pattern.specs.Operand.{Ordinary}
-use Rattle.pattern.specs.declared.parts.Parts.{Parts}
 
 -- by the pattern b and its exponent field e: for the reciprocal 1 ≤ e ≤ 252, for the roots every positive normal number
 unfoldable pub isPlain : Op → ℕ → ℕ → Bool
 isPlain Reciprocal b e = leb 1 e && leb e 252
 isPlain Root b e = leb 8388608 b && ltb b 2139095040
 isPlain InverseRoot b e = leb 8388608 b && ltb b 2139095040
-
--- such an operand by its parts: finite and normal, not negative for a root; at the scale of its result no bit is lost, and the last one ends
--- two exponents below infinity
-pub record Plain (op : Op) (x : Parts) : Type 0 where
-  pub ordinary : Ordinary binary32 (x .unsigned)
-  pub fields : FieldsOf binary32 x
-  pub one-bit : x .sign < 2
-  pub some : 0 < x .exponent
-  pub positive : isReciprocal op ≡ false → x .sign ≡ 0
-  pub not-special : isSpecial binary32 op (x .sign) (x .unsigned) ≡ false
-  pub least : 2 ≤ scaleOf binary32 op (x .exponent + 22)
-  pub most : scaleOf binary32 op (x .exponent + 22) ≤ 253

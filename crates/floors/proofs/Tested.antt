@@ -167,15 +167,15 @@ module _ (y g rest : ℕ) (Y : Significand k32 t32 y) (few : rest ≤ 2) where
         (omega arith) (omega arith) in
         record { floor = _; floored = F; is = e ∙ sym (next-is i (leb 9223372036854775808 v)) ∙ tested InverseRoot y p g rest Y parity b few _ _ _ F told }
 
--- by the case of the rounding
-module _ (op : Op) (y x : ℕ) (mode : Mode) (negative : Bool) (r : Taken) where
-  pub rest-nearest : mode ≡ Nearest → TakenOf op y x 1 r → TakenOf op y x (restOf mode negative) r
+-- what a rounding leaves, by its case
+module _ (mode : Mode) (negative : Bool) where
+  pub nearest-rest : mode ≡ Nearest → 1 ≡ restOf mode negative
   unfolding restOf
-  rest-nearest o h = rw o h
+  nearest-rest o = rw o
 
-  pub rest-zero : mode ≡ TowardZero → TakenOf op y x 2 r → TakenOf op y x (restOf mode negative) r
+  pub zero-rest : mode ≡ TowardZero → 2 ≡ restOf mode negative
   unfolding restOf
-  rest-zero o h = rw o h
+  zero-rest o = rw o
 
   up-is : (b : Bool) → cond b 2 0 ≡ restOf Up b
   unfolding restOf
@@ -187,20 +187,14 @@ module _ (op : Op) (y x : ℕ) (mode : Mode) (negative : Bool) (r : Taken) where
   down-is true = refl
   down-is false = refl
 
-  pub rest-up : (n : ℕ) → mode ≡ Up → n ≡ cond negative 2 0 → TakenOf op y x n r → TakenOf op y x (restOf mode negative) r
-  rest-up n o e h = rw (o, ← up-is negative, ← e) h
+  pub up-rest : (n : ℕ) → mode ≡ Up → n ≡ cond negative 2 0 → n ≡ restOf mode negative
+  up-rest n o e = e ∙ rw o (up-is negative)
 
-  pub rest-down : (n : ℕ) → mode ≡ Down → n ≡ cond (not negative) 2 0 → TakenOf op y x n r → TakenOf op y x (restOf mode negative) r
-  rest-down n o e h = rw (o, ← down-is negative, ← e) h
+  pub down-rest : (n : ℕ) → mode ≡ Down → n ≡ cond (not negative) 2 0 → n ≡ restOf mode negative
+  down-rest n o e = e ∙ rw o (down-is negative)
 
--- of a number that is not negative
-pub rest-above : (op : Op) (y x : ℕ) (mode : Mode) (r : Taken) → mode ≡ Up → TakenOf op y x 0 r → TakenOf op y x (restOf mode false) r
-unfolding restOf
-rest-above op y x mode r o h = rw o h
-
-pub rest-below : (op : Op) (y x : ℕ) (mode : Mode) (r : Taken) → mode ≡ Down → TakenOf op y x 2 r → TakenOf op y x (restOf mode false) r
-unfolding restOf
-rest-below op y x mode r o h = rw o h
+pub taken-rest : (op : Op) (y x n m : ℕ) (r : Taken) → TakenOf op y x n r → n ≡ m → TakenOf op y x m r
+taken-rest op y x n m r h e = rw (← e) h
 
 -- the root's, from its floor
 pub root-taken-is : (y x rest n : ℕ) (f : Floor) → Floored Root y x (f .quotient) (f .more) → n ≡ takenBy rest (f .quotient) (f .more)

@@ -38,17 +38,24 @@ fn next_if(next: bool, t: u64) -> u64
     t + next as u64
 }
 
-// The reciprocal's, each rounding by its own rest.
+// What a rounding leaves, in halves.
+fn rest_of(mode: Mode, negative: bool) -> u64
+    ensures { λ r. ⌜ (r ≡ restOf mode negative) × (r ≤ 2) ⌝ }
+{
+    match mode {
+        Mode::Nearest => 1,
+        Mode::Up => rest_if(negative),
+        Mode::Down => rest_if(!negative),
+        Mode::TowardZero => 2,
+    }
+}
+
+// The reciprocal's. The rest is worked out first, so that the roundings share the test.
 pub fn reciprocal_taken(mode: Mode, negative: bool, y: u64, g: u64) -> Taken
     requires { ⌜ Significand k32 t32 y × (g < 2 ^ 32) × Between Reciprocal k32 t32 y 0 g ⌝ }
     ensures { λ r. ⌜ TakenOf Reciprocal y (targetOf 23 Reciprocal y 0) (restOf mode negative) r ⌝ }
 {
-    match mode {
-        Mode::Nearest => reciprocal_with(1, y, g),
-        Mode::Up => reciprocal_with(rest_if(negative), y, g),
-        Mode::Down => reciprocal_with(rest_if(!negative), y, g),
-        Mode::TowardZero => reciprocal_with(2, y, g),
-    }
+    reciprocal_with(rest_of(mode, negative), y, g)
 }
 
 fn reciprocal_with(rest: u64, y: u64, g: u64) -> Taken
@@ -96,7 +103,7 @@ fn carried(mode: Mode, more: bool) -> u64
     }
 }
 
-// The inverse root's, each rounding by its own rest.
+// The inverse root's. Each rounding has its own test, whose rest is a number.
 pub fn inverse_root_taken(mode: Mode, y: u64, p: u64, g: u64) -> Taken
     requires { ⌜ Significand k32 t32 y × (p ≤ 1) × (g < 2 ^ 32) × Between InverseRoot k32 t32 y p g ⌝ }
     ensures { λ r. ⌜ TakenOf InverseRoot y (targetOf 23 InverseRoot y p) (restOf mode false) r ⌝ }

@@ -3,6 +3,9 @@ use borrow.Author.Needs.{needs}
 use Rattle.binary32.proofs.accepted.Statement.{statement}
 use Rattle.binary32.proofs.accepted.Tie as tie
 
+cast-bits : tie.Need-cast-t3
+cast-bits c = search needs
+
 joined-requires : tie.Need-joined-requires
 joined-requires c κs = search needs
 
@@ -10,4 +13,4 @@ returns : tie.Need-returns
 returns c = simp (c .joined .ensures)
 
 pub accepted-spec : {M : Type 1} → statement M
-accepted-spec = tie.close (tie.spec joined-requires returns)
+accepted-spec = tie.close (tie.spec cast-bits joined-requires returns)

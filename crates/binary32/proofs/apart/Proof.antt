@@ -2,7 +2,7 @@
 use Rattle.pattern.specs.declared.Width.the-variants.{Binary32}
 use Rattle.special.proofs.Parted.{ordinary-is}
 use Rattle.rounding.proofs.Answers.{answer-special, answer-ordinary}
-use Rattle.binary32.proofs.Results.{packed-is}
+use Rattle.binary32.proofs.Replies.{packed-is}
 use borrow.Author.Needs.{needs}
 use Rattle.binary32.proofs.apart.Statement.{statement}
 use Rattle.binary32.proofs.apart.Tie as tie
@@ -16,6 +16,9 @@ is-special-requires c κs = search needs
 special-requires : tie.Need-special-requires
 special-requires c κs = search needs
 
+accepted-requires : tie.Need-accepted-requires
+accepted-requires c κs = search needs
+
 packed-requires : tie.Need-packed-requires
 packed-requires c κs = search needs
 
@@ -24,6 +27,9 @@ returns c = search (packed-is, answer-special Binary32)
 
 finite-requires : tie.Need-finite-requires
 finite-requires c κs = (search ordinary-is, search needs, search needs)
+
+accepted-requires-2 : tie.Need-accepted-requires-2
+accepted-requires-2 c κs = search needs
 
 packed-requires-2 : tie.Need-packed-requires-2
 packed-requires-2 c κs = search needs
@@ -38,8 +44,10 @@ apart-spec =
     fields-requires
     is-special-requires
     special-requires
+    accepted-requires
     packed-requires
     returns
     finite-requires
+    accepted-requires-2
     packed-requires-2
     returns-2)

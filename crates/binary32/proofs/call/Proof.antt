@@ -21,26 +21,17 @@ of-requires c κs = search needs
 reciprocal-requires : tie.Need-reciprocal-requires
 reciprocal-requires c κs = search needs
 
-accepted-requires : tie.Need-accepted-requires
-accepted-requires c κs = search needs
-
 of-requires-2 : tie.Need-of-requires-2
 of-requires-2 c κs = search needs
 
 root-requires : tie.Need-root-requires
 root-requires c κs = search needs
 
-accepted-requires-2 : tie.Need-accepted-requires-2
-accepted-requires-2 c κs = search needs
-
 of-requires-3 : tie.Need-of-requires-3
 of-requires-3 c κs = search needs
 
 inverse-root-requires : tie.Need-inverse-root-requires
 inverse-root-requires c κs = search needs
-
-accepted-requires-3 : tie.Need-accepted-requires-3
-accepted-requires-3 c κs = search needs
 
 refused-requires-2 : tie.Need-refused-requires-2
 refused-requires-2 c κs = search needs
@@ -66,13 +57,10 @@ call-spec =
     returns
     of-requires
     reciprocal-requires
-    accepted-requires
     of-requires-2
     root-requires
-    accepted-requires-2
     of-requires-3
     inverse-root-requires
-    accepted-requires-3
     refused-requires-2
     returns-2
     returns-3

@@ -1,5 +1,6 @@
 -- `binary32::inverse_root` meets its contract: the short way, or apart. Assumes nothing.
-use Rattle.binary32.proofs.Results.{plain, plain-answered, unpacked-is}
+use Rattle.binary32.proofs.Plain.{plain, plain-answered}
+use Rattle.binary32.proofs.Replies.{accepted-is, unpacked-is}
 use borrow.Author.Needs.{needs}
 use Rattle.binary32.proofs.inverse_root.Statement.{statement}
 use Rattle.binary32.proofs.inverse_root.Tie as tie
@@ -22,11 +23,11 @@ returns c = search unpacked-is
 inverse-root-requires : tie.Need-inverse-root-requires
 inverse-root-requires c κs = search plain
 
-narrowed-requires : tie.Need-narrowed-requires
-narrowed-requires c κs = search needs
+accepted-requires : tie.Need-accepted-requires
+accepted-requires c κs = search needs
 
 returns-2 : tie.Need-returns-2
-returns-2 c = search plain-answered
+returns-2 c = search (accepted-is, plain-answered)
 
 pub inverse-root-spec : {M : Type 1} → statement M
 inverse-root-spec =
@@ -38,5 +39,5 @@ inverse-root-spec =
     unpacked-requires
     returns
     inverse-root-requires
-    narrowed-requires
+    accepted-requires
     returns-2)

@@ -1,5 +1,5 @@
 -- `binary32::is_plain` meets its contract, by the operation. Assumes nothing.
-use Rattle.binary32.proofs.Results.{reciprocal-test, root-test, inverse-test}
+use Rattle.binary32.proofs.Plain.{reciprocal-test, root-test, inverse-test}
 use borrow.Author.Needs.{needs}
 use Rattle.binary32.proofs.is_plain.Statement.{statement}
 use Rattle.binary32.proofs.is_plain.Tie as tie

@@ -1,5 +1,5 @@
 -- `floors::taken::inverse_root_taken` meets its contract: each rounding has its own rest. Assumes nothing.
-use Rattle.floors.proofs.Tested.{rest-nearest, rest-above, rest-below, rest-zero}
+use Rattle.floors.proofs.Tested.{nearest-rest, up-rest, down-rest, zero-rest, taken-rest}
 use borrow.Author.Needs.{needs}
 use Rattle.floors.proofs.taken.inverse_root_taken.Statement.{statement}
 use Rattle.floors.proofs.taken.inverse_root_taken.Tie as tie
@@ -29,16 +29,16 @@ inverse-root-with-requires-4 : tie.Need-inverse-root-with-requires-4
 inverse-root-with-requires-4 c κs = search needs
 
 returns : tie.Need-returns
-returns c = search rest-nearest
+returns c = search (taken-rest, nearest-rest)
 
 returns-2 : tie.Need-returns-2
-returns-2 c = search rest-above
+returns-2 c = search (taken-rest, up-rest)
 
 returns-3 : tie.Need-returns-3
-returns-3 c = search rest-below
+returns-3 c = search (taken-rest, down-rest)
 
 returns-4 : tie.Need-returns-4
-returns-4 c = search rest-zero
+returns-4 c = search (taken-rest, zero-rest)
 
 pub inverse-root-taken-spec : {M : Type 1} → statement M
 inverse-root-taken-spec =

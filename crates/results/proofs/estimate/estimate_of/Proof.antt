@@ -1,11 +1,11 @@
--- `binary32::estimate::estimate_of` meets its contract: the raw answer is near the exact value. Assumes nothing.
+-- `results::estimate::estimate_of` meets its contract: the raw answer is near the exact value. Assumes nothing.
 use lib.Dec.{lit≤}
 use Rattle.significand.specs.Width.{k32, t32}
 use Rattle.significand.proofs.Accepted.{operand-between}
-use Rattle.binary32.proofs.Results.{operand-is}
+use Rattle.results.proofs.Results.{operand-is}
 use borrow.Author.Needs.{needs}
-use Rattle.binary32.proofs.estimate.estimate_of.Statement.{statement}
-use Rattle.binary32.proofs.estimate.estimate_of.Tie as tie
+use Rattle.results.proofs.estimate.estimate_of.Statement.{statement}
+use Rattle.results.proofs.estimate.estimate_of.Tie as tie
 
 scales-of-requires : tie.Need-scales-of-requires
 scales-of-requires c κs = search needs

@@ -6,7 +6,7 @@ use Rattle.significand.specs.Distance.{Between}
 use Rattle.ieee.specs.Format.{binary32}
 use Rattle.pattern.specs.declared.operand.Scaled.{Scaled}
 use Rattle.neighbour.specs.Scales.{ScalesOf}
-use Rattle.binary32.specs.declared.estimate.Estimate.{Estimate}
+use Rattle.results.specs.declared.estimate.Estimate.{Estimate}
 
 -- the scale and the parity of the operand's exponent, and how near the answer is to the exact value with that parity
 pub record EstimateOf (op : Op) (x : Scaled) (r : Estimate) : Type 0 where

@@ -1,8 +1,8 @@
--- `binary32::finite` meets its contract: the floor gives the pattern below the exact result, which is rounded. Assumes nothing.
-use Rattle.binary32.proofs.Results.{floor-most, below-finite, exact-answered}
+-- `results::finite` meets its contract: the floor gives the pattern below the exact result, which is rounded. Assumes nothing.
+use Rattle.results.proofs.Results.{floor-most, below-finite, exact-answered}
 use borrow.Author.Needs.{needs}
-use Rattle.binary32.proofs.finite.Statement.{statement}
-use Rattle.binary32.proofs.finite.Tie as tie
+use Rattle.results.proofs.finite.Statement.{statement}
+use Rattle.results.proofs.finite.Tie as tie
 
 scale-requires : tie.Need-scale-requires
 scale-requires c κs = search needs

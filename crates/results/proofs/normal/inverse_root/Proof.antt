@@ -1,8 +1,8 @@
--- `binary32::normal::inverse_root` meets its contract: the significand taken is that of a normal result. Assumes nothing.
-use Rattle.binary32.proofs.Results.{taken-scale, taken-finite, root-answered}
+-- `results::normal::inverse_root` meets its contract: the significand taken is that of a normal result. Assumes nothing.
+use Rattle.results.proofs.Results.{taken-scale, taken-finite, root-answered}
 use borrow.Author.Needs.{needs}
-use Rattle.binary32.proofs.normal.inverse_root.Statement.{statement}
-use Rattle.binary32.proofs.normal.inverse_root.Tie as tie
+use Rattle.results.proofs.normal.inverse_root.Statement.{statement}
+use Rattle.results.proofs.normal.inverse_root.Tie as tie
 
 scale-normal-requires : tie.Need-scale-normal-requires
 scale-normal-requires c κs = search needs

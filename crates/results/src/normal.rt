@@ -3,7 +3,7 @@ ghost use Rattle.kinds.specs.declared.Op.the-variants.{Reciprocal, Root, Invers
 ghost use Rattle.ieee.specs.Format.{binary32};
 ghost use Rattle.ieee.specs.Answer.{toFinite};
 ghost use Rattle.pattern.specs.Answer.{Answered};
-ghost use Rattle.binary32.specs.Normal.{Plain};
+ghost use Rattle.results.specs.Plain.{Plain};
 use crate::estimate::estimate_of;
 use floors::taken::inverse_root_taken;
 use floors::taken::reciprocal_taken;

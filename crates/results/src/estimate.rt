@@ -1,7 +1,7 @@
 // The raw answer to a positive finite operand, which its result is worked out from.
 ghost use Prim.Native.Nat.{_+_, _^_, _<_};
 ghost use Rattle.significand.specs.Width.{k32, t32, Significand};
-ghost use Rattle.binary32.specs.Estimate.{EstimateOf};
+ghost use Rattle.results.specs.Estimate.{EstimateOf};
 use kinds::Op;
 use neighbour::scales::Scales;
 use neighbour::scales::scales_of;
