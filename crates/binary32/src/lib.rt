@@ -53,9 +53,10 @@ fn accepted(status: u8, r: Rounded) -> Reply
     requires { ⌜ r .bits < 2 ^ 32 ⌝ }
     ensures { λ a. ⌜ a ≡ acceptedReply status (answer (r .bits) (r .flags)) ⌝ }
 {
+    let bits = r.bits as u32;
     Reply {
         refusal: 0,
-        bits: r.bits as u32,
+        bits,
         status: joined(status, r.flags),
     }
 }

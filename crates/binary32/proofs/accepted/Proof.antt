@@ -3,7 +3,7 @@ use borrow.Author.Needs.{needs}
 use Rattle.binary32.proofs.accepted.Statement.{statement}
 use Rattle.binary32.proofs.accepted.Tie as tie
 
-cast-bits : tie.Need-cast-t3
+cast-bits : tie.Need-cast-bits
 cast-bits c = search needs
 
 joined-requires : tie.Need-joined-requires
