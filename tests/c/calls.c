@@ -1,9 +1,10 @@
 /* The calls through include/plate.h: rows of document 01's table, its example
    written by both list calls and read back, the example as document 01 writes it,
    a record that is lifted, rows of binary64 with their tables filled here, widths
-   that are squared and come back, and refusals of each call.
+   that are squared and come back, refusals of each call, their words, and the
+   lengths of maps and lists.
 
-     cc -std=c99 -Wall -Wextra -Werror -Iinclude tests/c/calls.c target/staticlib/libplate.a
+     cc -std=c99 -Wall -Wextra -Werror -Ibuild/include tests/c/calls.c build/lib/libplate.a
 */
 #include <stdio.h>
 #include <string.h>
@@ -12,16 +13,31 @@
 
 static int differs(int line, uint64_t given, uint32_t answer, uint8_t status, uint8_t refusal)
 {
-    int same = PLATE_ANSWER(given) == answer && PLATE_STATUS(given) == status
-        && PLATE_REFUSAL(given) == refusal && given >> 48 == 0;
+    int same = plate_answer(given) == answer && plate_status(given) == status
+        && plate_refusal(given) == refusal && given >> 48 == 0;
     if (!same)
-        printf("calls.c:%d: %08x, status %d, refusal %d\n", line, (unsigned)PLATE_ANSWER(given),
-               PLATE_STATUS(given), PLATE_REFUSAL(given));
+        printf("calls.c:%d: %08x, status %d, refusal %d\n", line, (unsigned)plate_answer(given),
+               plate_status(given), plate_refusal(given));
     return !same;
 }
 
 #define EXPECT(given, answer, status, refusal) \
     if (differs(__LINE__, (given), (answer), (status), (refusal))) return 1
+
+/* The header's own: each refusal has words of its own, numbers of none the same. */
+static int header_differs(void)
+{
+    int a, b;
+
+    for (a = PLATE_ACCEPTED; a <= PLATE_REFUSED_ENTRY; a++)
+        for (b = a + 1; b <= PLATE_REFUSED_ENTRY + 1; b++)
+            if (strcmp(plate_refusal_words(a), plate_refusal_words(b)) == 0)
+                return 1;
+    return PLATE_REFUSED_ENTRY != 16 || strcmp(plate_refusal_words(17), plate_refusal_words(255)) != 0
+        || PLATE_LIST_LENGTH(3, 3) != 30 || PLATE_LONGEST_LIST != 46146 || PLATE_LONGEST_MAP != 16400
+        || PLATE_ANSWER(0x0000AABBCCDDEEFF) != 0xCCDDEEFF || PLATE_STATUS(0x0000AABBCCDDEEFF) != 0xBB
+        || PLATE_REFUSAL(0x0000AABBCCDDEEFF) != 0xAA;
+}
 
 /* A width times itself, and the root of that. */
 static int width_lost(float width)
@@ -31,7 +47,7 @@ static int width_lost(float width)
 
     memcpy(&before, &width, 4);
     memcpy(&bits, &squared, 4);
-    return PLATE_ANSWER(plate_binary32(PLATE_ROOT, PLATE_NEAREST, 0, bits)) != before;
+    return plate_answer(plate_binary32(PLATE_ROOT, PLATE_NEAREST, 0, bits)) != before;
 }
 
 static int record_differs(int line, struct plate_record_reply given, struct plate_record_reply expected)
@@ -235,7 +251,7 @@ int main(void)
     /* The reply keeps its length and its older places. */
     if (sizeof(struct plate_record_reply) != 32 || offsetof(struct plate_record_reply, rounding) != 1
         || offsetof(struct plate_record_reply, width) != 4 || offsetof(struct plate_record_reply, z) != 28
-        || PLATE_ROUNDING_UNKNOWN != 255)
+        || PLATE_ROUNDING_UNKNOWN != 255 || header_differs())
         return 1;
 
     EXPECT(plate_raw(PLATE_RECIPROCAL, 12582912, 0), 178956970, 0, 0);

@@ -68,7 +68,7 @@ static uint64_t compare(uint8_t operation, uint8_t rounding, struct slice slice,
         count++;
         if (given != expected && ++differences <= SHOWN)
             printf("  %08" PRIX64 ": the unit gives %08X, status %d, SoftFloat %08X, status %d\n", bits,
-                   PLATE_ANSWER(given), PLATE_STATUS(given), PLATE_ANSWER(expected), PLATE_STATUS(expected));
+                   plate_answer(given), plate_status(given), plate_answer(expected), plate_status(expected));
     }
     printf("%-10s %-11s %10" PRIu64 " compared, %" PRIu64 " differ\n", operations[operation],
            roundings[rounding], count, differences);
