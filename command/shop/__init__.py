@@ -1,0 +1,1 @@
+"""The shop's command over libplate.so. It moves bytes; the numbers come from the proved calls."""

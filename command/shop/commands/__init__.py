@@ -1,0 +1,1 @@
+"""One module for each subcommand: SUMMARY, arguments(parser) and run(arguments)."""

@@ -1,0 +1,30 @@
+"""Works one operation on a significand, not rounded: what the table, the short
+series and one product give.
+
+A positive number is Y times a power of two, with Y from 1 to below 2, and its
+significand y stands for Y: y / 2^23 with 24 bits, from 8388608 to 16777215, and
+y / 2^52 with --binary64. Where the power's exponent is odd the parity is 1, and
+both roots are those of 2 Y. The answer stands for itself over 2^28, or over 2^60,
+and is less than 12 (reciprocal) or 7 (both roots) of these units from the exact
+value."""
+import decimal
+
+from shop import library
+from shop.words import OPERATIONS, Refused, refusal, say
+
+SUMMARY = 'work one operation on a significand, not rounded'
+
+
+def arguments(parser):
+    parser.add_argument('operation', metavar='OPERATION', choices=OPERATIONS, help='reciprocal, root or inverse-root')
+    parser.add_argument('significand', metavar='Y', type=int, help='the significand, a whole number')
+    parser.add_argument('--parity', type=int, default=0, choices=(0, 1), help='1 where the exponent is odd')
+    parser.add_argument('--binary64', action='store_true', help='with 53 bits')
+
+
+def run(arguments):
+    call, size, places = (library.raw64, 64, 60) if arguments.binary64 else (library.raw, 32, 28)
+    if not 0 <= arguments.significand < 1 << size:
+        raise Refused(refusal(3))
+    answer = call(OPERATIONS[arguments.operation], arguments.significand, arguments.parity)
+    say(str(answer), f'which stands for {answer} / 2^{places}, about {decimal.Decimal(answer) / (1 << places):.12f}')
