@@ -1,4 +1,4 @@
-//! plate_tests links libplate.a. libmpfr is named by its file, so that Debian's
+//! The package in rust/ links libplate.a. libmpfr is named by its file, so that Debian's
 //! libmpfr6 is enough and libmpfr-dev does as well. libsoftfloat.a is that of
 //! tests/softfloat/build, or the one in the folder that SOFTFLOAT_LIB names. An
 //! earlier libplate.a, in the folder that PLATE_BEFORE names, is linked with

@@ -34,7 +34,7 @@ fn main() {
         eprintln!("unknown part {unknown}: raw, binary32, binary64 or list");
         std::process::exit(2);
     }
-    if cfg!(feature = "self") {
+    if cfg!(not(feature = "library")) {
         println!("WITHOUT THE LIBRARY: \"unit\" is the Rust reference of tests/rust.\n");
     }
     for (name, run) in PARTS {
