@@ -7,7 +7,7 @@ PREFIX ?= /usr/local
 DESTDIR ?=
 CC ?= cc
 
-# the version stands in the header, and nowhere else
+# the version stands in the header; rust/Cargo.toml and CHANGELOG.md name it too, and a test compares them
 version := $(shell sed -n 's/^\#define PLATE_VERSION "\(.*\)"/\1/p' include/plate.h)
 soname := libplate.so.$(firstword $(subst ., ,$(version)))
 proved := crates.txt $(shell find crates -name '*.rt' -o -name '*.antt')

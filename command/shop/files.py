@@ -8,6 +8,8 @@ from shop.words import Refused, Unreadable
 
 LONGEST = 1 << 24
 PICTURES = ('.png', '.svg', '.pdf')
+# the files that this run has read or written: none is written over
+used = set()
 
 
 def read(path):
@@ -20,6 +22,7 @@ def read(path):
         else:
             with open(path, 'rb') as file:
                 data = file.read(LONGEST + 1)
+            used.add(os.path.realpath(path))
     except OSError as failure:
         raise Unreadable(f'{named(path)}: {failure.strerror}') from None
     if len(data) > LONGEST:
@@ -46,10 +49,13 @@ def write(path, data):
     try:
         place = os.path.realpath(path)
         mode = os.stat(place).st_mode if os.path.exists(place) else None
-        if mode is None or stat.S_ISREG(mode):
-            replace(place, mode, data)
-        else:
+        if mode is not None and not stat.S_ISREG(mode):
             put(os.open(place, os.O_WRONLY), data)
+            return
+        if place in used:
+            raise Refused(f'{path}: is in use by this very command; name another file')
+        replace(place, mode, data)
+        used.add(place)
     except OSError as failure:
         raise OSError(failure.errno, failure.strerror, path) from None
 

@@ -7,6 +7,7 @@ import os
 import matplotlib
 import numpy
 from matplotlib.figure import Figure
+from matplotlib.ticker import MultipleLocator
 
 from shop import files
 
@@ -63,8 +64,9 @@ def bracket(path, plate_map, lower, upper):
     along = numpy.arange(first.columns) * step
     section.fill_between(along, heights[row] / MICROMETRES, heights.min() / MICROMETRES - 1, color=WOOD, alpha=0.35, label='surface')
     for (x, _, z), colour, style, name in ((low, LOWER, '-', 'lower'), (high, UPPER, ':', 'upper')):
-        section.plot(x[row - 1] / MICROMETRES, z[row - 1] / MICROMETRES, style, color=colour, label=f'{name} list')
-    section.set(title=f'row {row}: centres over the surface', xlabel='x, mm', ylabel='z, mm')
+        across, up = x[row - 1] / MICROMETRES, z[row - 1] / MICROMETRES
+        section.plot(across, up, style, marker='.', markersize=3, color=colour, label=f'{name} list')
+    section.set(title=f'row {row}: the centres over the surface', xlabel='x, mm', ylabel='z, mm')
     section.legend(loc='best', fontsize=8)
     draw_close(close, low, high, row - 1)
     save(path, figure)
@@ -89,9 +91,11 @@ def draw_close(axes, low, high, row):
     axes.set(xlim=(x - 3.5, x + 4.5), ylim=(z - 3.5, z + 4.5), xlabel='x, µm', ylabel='z, µm',
              title=f'column {column + 1}, row {row + 1} close up: the bracket')
     axes.set_aspect('equal')
-    axes.grid(True, linewidth=0.4)
+    for axis in (axes.xaxis, axes.yaxis):
+        axis.set_major_locator(MultipleLocator(2))
+        axis.set_minor_locator(MultipleLocator(1))
+    axes.grid(True, which='both', linewidth=0.4)
     axes.ticklabel_format(useOffset=False, style='plain')
-    axes.locator_params(nbins=8, integer=True)
     axes.legend(loc='upper right', fontsize=8)
 
 
