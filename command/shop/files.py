@@ -8,8 +8,44 @@ from shop.words import Refused, Unreadable
 
 LONGEST = 1 << 24
 PICTURES = ('.png', '.svg', '.pdf')
-# the files that this run has read or written: none is written over
-used = set()
+
+
+def named(path):
+    """What a file that is read is called in a message."""
+    return 'standard input' if path == '-' else path
+
+
+def output(path):
+    """A file's name to write to, on the command line."""
+    if not path or path.endswith('/'):
+        raise argparse.ArgumentTypeError(f'{path!r} is not the name of a file')
+    return path
+
+
+def picture(path):
+    """A picture's name to write to: its end is the format."""
+    if not path.lower().endswith(PICTURES):
+        raise argparse.ArgumentTypeError(f'{path!r}: the name of a picture ends in {", ".join(PICTURES)}')
+    return path
+
+
+def identity(path):
+    """What tells a regular file from others, also one that is not there yet; nothing of a device or a pipe."""
+    try:
+        found = os.stat(path)
+    except OSError:
+        return os.path.realpath(path)
+    return (found.st_dev, found.st_ino) if stat.S_ISREG(found.st_mode) else None
+
+
+def check_apart(*paths):
+    """No two of the files that a command reads and writes are one."""
+    seen = set()
+    for path in paths:
+        one = None if path in (None, '-') else identity(path)
+        if one in seen:
+            raise Refused(f'{path}: the same file is read or written twice')
+        seen |= {one} - {None}
 
 
 def read(path):
@@ -22,23 +58,11 @@ def read(path):
         else:
             with open(path, 'rb') as file:
                 data = file.read(LONGEST + 1)
-            used.add(os.path.realpath(path))
     except OSError as failure:
         raise Unreadable(f'{named(path)}: {failure.strerror}') from None
     if len(data) > LONGEST:
         raise Refused(f'{named(path)}: more than {LONGEST >> 20} MiB')
     return data
-
-
-def named(path):
-    return 'standard input' if path == '-' else path
-
-
-def picture(path):
-    """A picture's name on the command line: its end is the format."""
-    if not path.lower().endswith(PICTURES):
-        raise argparse.ArgumentTypeError(f'{path}: a picture ends in {" or ".join(PICTURES)}')
-    return path
 
 
 def write(path, data):
@@ -47,15 +71,14 @@ def write(path, data):
         write_all(1, data)
         return
     try:
-        place = os.path.realpath(path)
-        mode = os.stat(place).st_mode if os.path.exists(place) else None
-        if mode is not None and not stat.S_ISREG(mode):
-            put(os.open(place, os.O_WRONLY), data)
-            return
-        if place in used:
-            raise Refused(f'{path}: is in use by this very command; name another file')
-        replace(place, mode, data)
-        used.add(place)
+        try:
+            mode = os.stat(path).st_mode
+        except FileNotFoundError:
+            mode = None
+        if mode is None or stat.S_ISREG(mode):
+            replace(os.path.realpath(path), mode, data)
+        else:
+            put(os.open(path, os.O_WRONLY), data)
     except OSError as failure:
         raise OSError(failure.errno, failure.strerror, path) from None
 

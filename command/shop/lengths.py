@@ -1,18 +1,20 @@
 """Lengths in millimetres, as the shop writes them, and whole micrometres, as maps have them."""
+import argparse
 import decimal
+import re
 
 from shop.words import Refused
 
 # more digits than anyone writes, so that no length is rounded before it is asked to
 decimal.getcontext().prec = 1000
+DECIMAL = re.compile(r'[+-]?(\d+[.,]?\d*|[.,]\d+)(e[+-]?\d{1,9})?', re.ASCII | re.IGNORECASE)
 
 
 def millimetres(text):
     """An exact decimal number; a comma may stand for the point."""
-    number = decimal.Decimal(text.strip().replace(',', '.'))
-    if not number.is_finite():
+    if not DECIMAL.fullmatch(text.strip()):
         raise ValueError(text)
-    return number
+    return decimal.Decimal(text.strip().replace(',', '.'))
 
 
 def whole_micrometres(name, length):
@@ -32,8 +34,5 @@ def argument(text):
     """A length on the command line."""
     try:
         return millimetres(text)
-    except (decimal.InvalidOperation, ValueError):
-        raise ValueError(text) from None
-
-
-argument.__name__ = 'length in millimetres'
+    except ValueError:
+        raise argparse.ArgumentTypeError(f'{text!r} is not a length in millimetres') from None

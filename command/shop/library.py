@@ -49,7 +49,9 @@ def calls():
     except OSError as failure:
         raise Unreadable(f'the library: {failure}') from None
     for name, (result, arguments) in SIGNATURES.items():
-        function = getattr(library, name)
+        function = getattr(library, name, None)
+        if function is None:
+            raise Unreadable(f'the library: {path} has no {name}')
         function.restype, function.argtypes = result, arguments
     return library
 

@@ -59,6 +59,7 @@ def main(given=None):
     except Unreadable as failure:
         return failed(2, failure)
     except OSError as failure:
-        return failed(2, f'{failure.filename or "standard output"}: {failure.strerror or failure}')
+        name = 'standard output' if failure.filename is None else failure.filename
+        return failed(2, f'{name}: {failure.strerror or failure}')
     except KeyboardInterrupt:
         return failed(130, 'stopped')

@@ -2,7 +2,6 @@
 front. What is drawn are a map's heights and a list's records."""
 import io
 import logging
-import os
 
 import matplotlib
 import numpy
@@ -20,7 +19,7 @@ MICROMETRES = 1000
 def save(path, figure):
     """The figure in the format that the file's name ends in."""
     drawn = io.BytesIO()
-    figure.savefig(drawn, format=os.path.splitext(path)[1][1:].lower(), dpi=110)
+    figure.savefig(drawn, format=path[-3:].lower(), dpi=110)
     files.write(path, drawn.getvalue())
 
 
@@ -104,10 +103,11 @@ def path(name, records):
     x, y, z = (numbers / MICROMETRES for numbers in coordinates(records))
     figure = Figure(figsize=(9, 8), layout='constrained')
     above, side = figure.subplots(2, 1, height_ratios=(2, 1))
+    size = 2 if x.size > 100 else 8
     shades = matplotlib.colormaps['viridis'](numpy.linspace(0, 0.9, len(x)))
     for across, along, up, shade in zip(x, y, z, shades):
-        above.plot(across, along, '.-', color=shade, linewidth=0.6, markersize=1.5)
-        side.plot(across, up, color=shade, linewidth=0.7)
+        above.plot(across, along, '.-', color=shade, linewidth=0.6, markersize=size)
+        side.plot(across, up, '.-', color=shade, linewidth=0.7, markersize=size)
     from_above(above, 'centres from above; each line is a row, and moves between rows are not part of a list')
     side.set(title='from the side, first rows dark', xlabel='x, mm', ylabel='z, mm')
     save(name, figure)

@@ -1,31 +1,45 @@
 """A table of heights in millimetres, read from text, to whole micrometres. Errors name the row and the column, counted from 1."""
 import decimal
+import re
 
 from shop.lengths import millimetres, nearest_micrometre
 from shop.words import Refused, check_sizes, count
 
 HIGHEST = decimal.Decimal(50)
+# a line without heights; a word with a decimal comma at the most
+EMPTY = re.compile(r'\s*(#|$)')
+WORD = re.compile(r'[^,]+(,[^,]+)?')
+
+
+def separator(lines):
+    """What stands between heights: semicolons, else tabs, else spaces if each comma is within a word, else commas."""
+    for mark in ';\t':
+        if any(mark in line for line in lines):
+            return mark
+    words = [line.split() for line in lines]
+    if any(len(row) > 1 for row in words) and all(WORD.fullmatch(word) for row in words for word in row):
+        return None
+    return ',' if any(',' in line for line in lines) else None
 
 
 def cells(name, data):
-    """The lines that have heights, each with its number and cut into cells: at semicolons, else tabs, else commas, else spaces."""
+    """The lines that have heights, each with its number and cut into cells."""
     try:
         text = data.decode('utf-8-sig')
     except UnicodeDecodeError:
         raise Refused(f'{name}: not a table of text; a picture needs --low and --high') from None
-    lines = [(number, line.strip()) for number, line in enumerate(text.splitlines(), 1)]
-    lines = [(number, line) for number, line in lines if line and not line.startswith('#')]
-    between = next((mark for mark in ';\t,' if any(mark in line for _, line in lines)), None)
-    return [(number, line.split(between)) for number, line in lines], between
+    lines = [(number, line) for number, line in enumerate(text.splitlines(), 1) if not EMPTY.match(line)]
+    between = separator([line for _, line in lines])
+    return [(number, line.split(between)) for number, line in lines]
 
 
-def height(text, comma):
-    """The height in a cell, in which a comma may be the decimal point."""
+def height(text):
+    """The height in a cell."""
     if not text.strip():
         raise Refused('no height')
     try:
-        length = millimetres(text if comma else text.replace(',', ' '))
-    except (decimal.InvalidOperation, ValueError):
+        length = millimetres(text)
+    except ValueError:
         raise Refused(f'{text.strip()[:40]!r} is not a number') from None
     if length > HIGHEST:
         raise Refused(f'{length} mm is above {HIGHEST} mm')
@@ -36,7 +50,7 @@ def height(text, comma):
 
 def heights(name, data):
     """The heights in micrometres, row by row, and how many of them were not whole."""
-    rows, between = cells(name, data)
+    rows = cells(name, data)
     if not rows:
         raise Refused(f'{name}: no heights')
     columns = len(rows[0][1])
@@ -47,7 +61,7 @@ def heights(name, data):
             raise Refused(f'{name}: row {row} has {count(len(texts), "height")}, row 1 has {columns}')
         for column, text in enumerate(texts, 1):
             try:
-                table.append(height(text, between != ','))
+                table.append(height(text))
             except Refused as why:
                 place = f'row {row}, column {column}' + (f' (line {line})' if line != row else '')
                 raise Refused(f'{name}: {place}: {why}') from None

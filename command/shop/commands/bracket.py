@@ -2,18 +2,21 @@
 
 Where a number of the lower list and its fellow of the upper one differ, the upper
 is larger by one micrometre, and the exact centre lies between them. A point is
-exact where all three numbers are equal. The lists are those before the lift."""
+exact where all three numbers are equal. The lists are those before the lift.
+
+  plate bracket top.plt --picture bracket.png
+  plate bracket top.plt --table | less"""
 from shop import files, library
 from shop.progress import progress
-from shop.words import ROUNDINGS, count, say, sizes
+from shop.words import ROUNDINGS, Unreadable, count, say, sizes
 
 SUMMARY = 'make the lower and the upper list of a map, and compare them'
 
 
 def arguments(parser):
     parser.add_argument('map', metavar='MAP', help='the map, as `plate map` makes it; - is standard input')
-    parser.add_argument('--lower', metavar='FILE', help='write the lower list')
-    parser.add_argument('--upper', metavar='FILE', help='write the upper list')
+    parser.add_argument('--lower', metavar='FILE', type=files.output, help='write the lower list')
+    parser.add_argument('--upper', metavar='FILE', type=files.output, help='write the upper list')
     parser.add_argument('--table', action='store_true', help='print each number that differs')
     parser.add_argument('--picture', metavar='FILE', type=files.picture,
                         help='draw the surface, the bracket and which points are exact (png, svg, pdf)')
@@ -37,6 +40,9 @@ def told(points, found):
 
 
 def run(arguments):
+    files.check_apart(arguments.map, arguments.lower, arguments.upper, arguments.picture)
+    if '-' in (arguments.lower, arguments.upper):
+        raise Unreadable('standard output has the comparison: name a file for the list')
     name, given = files.named(arguments.map), files.read(arguments.map)
     cuts = [library.cutter_list(name, given, ROUNDINGS[rounding]) for rounding in ('down', 'up')]
     for path, cut in zip((arguments.lower, arguments.upper), cuts):

@@ -11,7 +11,10 @@ is column 0, at x = 0. A machine whose y runs away from you has row 0 in front, 
 the plate comes out as the table in a mirror, top and bottom exchanged; --bottom-up
 takes the last row first, and the plate lies as the table looks.
 
-Rows and columns in a message are counted from 1."""
+Rows and columns in a message are counted from 1.
+
+  plate map top.csv -o top.plt --step 5.6 --radius 6
+  plate map top.png -o top.plt --step 5.6 --radius 6 --low 4 --high 15.5"""
 import decimal
 
 from shop import files, greys, library, tables
@@ -26,7 +29,7 @@ SUMMARY = 'make a map from a table of heights, or from a grey picture'
 
 def arguments(parser):
     parser.add_argument('table', metavar='TABLE', help='the table or the picture; - is standard input')
-    parser.add_argument('-o', dest='output', metavar='FILE', required=True, help='the map to write')
+    parser.add_argument('-o', dest='output', metavar='FILE', type=files.output, required=True, help='the map to write')
     parser.add_argument('--step', metavar='MM', type=argument, required=True, help='from a height to the next, 0.001 to 10 mm')
     parser.add_argument('--radius', metavar='MM', type=argument, required=True, help="the cutter's radius, 0.001 to 12.5 mm")
     parser.add_argument('--low', metavar='MM', type=argument, help='the height of black: TABLE is a picture')
@@ -66,6 +69,7 @@ def whole_map(table, step, radius):
 
 
 def run(arguments):
+    files.check_apart(arguments.table, arguments.output)
     step = micrometres('--step', arguments.step, LEAST, WIDEST_STEP)
     radius = micrometres('--radius', arguments.radius, LEAST, LARGEST_RADIUS)
     table, notes = heights(arguments)

@@ -3,7 +3,11 @@
 X is a decimal number (2.5, -1e-3, inf), of which the nearest binary32 number is
 taken, or the bits of one (0x40200000). --square takes X times itself first, by the
 machine's product to the nearest: a width from 2^-63 to below 2^64 is the root of
-its square again, to the nearest."""
+its square again, to the nearest.
+
+  plate number root down 2
+  plate number inverse-root nearest 0x40800000
+  plate number root nearest 2.7 --square"""
 import re
 
 from shop import library
@@ -26,7 +30,7 @@ def arguments(parser):
 def run(arguments):
     form, call = (BINARY64, library.binary64) if arguments.binary64 else (BINARY32, library.binary32)
     bits, exact = form.read(arguments.number)
-    lines = [] if exact else [f'{arguments.number} is taken as {form.words(bits)}, the nearest']
+    lines = [] if exact else [f'{arguments.number} is taken as {form.in_digits(bits)}, the nearest {form.name} number']
     if arguments.square:
         bits = form.square(bits)
         lines.append(f'its square, to the nearest, is {form.words(bits)}')

@@ -6,7 +6,10 @@ significand y stands for Y: y / 2^23 with 24 bits, from 8388608 to 16777215, and
 y / 2^52 with --binary64. Where the power's exponent is odd the parity is 1, and
 both roots are those of 2 Y. The answer stands for itself over 2^28, or over 2^60,
 and is less than 12 (reciprocal) or 7 (both roots) of these units from the exact
-value."""
+value.
+
+  plate raw reciprocal 12582912
+  plate raw root 8388608 --parity 1"""
 import decimal
 
 from shop import library

@@ -2,7 +2,9 @@
 point on the map, counted from 0, and the cutter's centre in micrometres.
 
 A list says nothing of the moves between its records, so the picture joins the
-records of one row alone."""
+records of one row alone.
+
+  plate show lower.cut --picture path.png"""
 from shop import files, library
 from shop.progress import progress
 from shop.words import ROUNDED, say, sizes
@@ -17,6 +19,7 @@ def arguments(parser):
 
 
 def run(arguments):
+    files.check_apart(arguments.list, arguments.picture)
     name, cut = files.named(arguments.list), files.read(arguments.list)
     records = list(library.records(name, cut))
     first = records[0][2]
