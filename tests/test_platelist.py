@@ -16,15 +16,7 @@ ROOT = pathlib.Path(__file__).resolve().parent.parent
 PROGRAM = ROOT / 'target' / 'bin' / 'platelist'
 sys.path.insert(0, str(ROOT / 'tests' / 'reference'))
 import plate  # noqa: E402
-
-
-def frames():
-    data = (ROOT / 'crates' / 'list_vectors' / 'stdin').read_bytes()
-    at = 0
-    while at < len(data):
-        length = int.from_bytes(data[at:at + 4], 'little')
-        yield data[at + 8:at + 8 + length]
-        at += 8 + length
+from frames import frames  # noqa: E402
 
 
 def in_pieces(given, size):

@@ -6,7 +6,8 @@ import sys
 
 from shop.words import Refused, Unreadable
 
-LONGEST = 1 << 24
+# far more than any map, list or table has, and any picture of a map's size
+LONGEST, LONGEST_PICTURE = 1 << 20, 1 << 26
 PICTURES = ('.png', '.svg', '.pdf')
 
 
@@ -32,36 +33,36 @@ def picture(path):
 def identity(path):
     """What tells a regular file from others, also one that is not there yet; nothing of a device or a pipe."""
     try:
-        found = os.stat(path)
+        found = os.stat(0 if path == '-' else path)
     except OSError:
         return os.path.realpath(path)
     return (found.st_dev, found.st_ino) if stat.S_ISREG(found.st_mode) else None
 
 
-def check_apart(*paths):
-    """No two of the files that a command reads and writes are one."""
-    seen = set()
-    for path in paths:
+def check_apart(source, *outputs):
+    """The file that a command reads, and those that it writes, are different ones."""
+    seen = {identity(source)} - {None}
+    for path in outputs:
         one = None if path in (None, '-') else identity(path)
         if one in seen:
-            raise Refused(f'{path}: the same file is read or written twice')
+            raise Unreadable(f'{path}: the same file would be read or written twice')
         seen |= {one} - {None}
 
 
-def read(path):
+def read(path, longest=LONGEST):
     """The bytes of a file."""
     try:
         if path == '-':
             if sys.stdin is None:
                 raise Unreadable('standard input: closed')
-            data = sys.stdin.buffer.read(LONGEST + 1)
+            data = sys.stdin.buffer.read(longest + 1)
         else:
             with open(path, 'rb') as file:
-                data = file.read(LONGEST + 1)
+                data = file.read(longest + 1)
     except OSError as failure:
         raise Unreadable(f'{named(path)}: {failure.strerror}') from None
-    if len(data) > LONGEST:
-        raise Refused(f'{named(path)}: more than {LONGEST >> 20} MiB')
+    if len(data) > longest:
+        raise Refused(f'{named(path)}: more than {longest >> 20} MiB')
     return data
 
 

@@ -17,9 +17,10 @@ def greys(name, data):
         Image.open(io.BytesIO(data)).verify()
         picture = Image.open(io.BytesIO(data))
         check_sizes(name, *picture.size)
-        if picture.mode.startswith('I'):
+        deep = any('16' in str(tile) for tile in picture.tile)
+        if deep and picture.mode.startswith('I'):
             return numpy.asarray(picture, dtype=numpy.int64), 65535
-        if picture.mode not in ('1', 'L', 'LA', 'P', 'RGB', 'RGBA') or any('16' in str(tile) for tile in picture.tile):
+        if deep or picture.mode not in ('1', 'L', 'LA', 'P', 'RGB', 'RGBA'):
             raise Refused(f'{name}: not a plain grey picture, of 8 or 16 bits, but one of the kind {picture.mode}')
         colours = numpy.asarray(picture.convert('RGBA'), dtype=numpy.int64)
     except UnidentifiedImageError:

@@ -46,6 +46,8 @@ def failed(status, words):
 
 
 def main(given=None):
+    if sys.stderr is None:
+        sys.stderr = open(os.devnull, 'w', encoding='utf-8')
     try:
         try:
             arguments = parser().parse_args(given)

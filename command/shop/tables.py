@@ -3,7 +3,7 @@ import decimal
 import re
 
 from shop.lengths import millimetres, nearest_micrometre
-from shop.words import Refused, check_sizes, count
+from shop.words import Refused, check_sizes, count, short
 
 HIGHEST = decimal.Decimal(50)
 # a line without heights; a word with a decimal comma at the most
@@ -40,11 +40,11 @@ def height(text):
     try:
         length = millimetres(text)
     except ValueError:
-        raise Refused(f'{text.strip()[:40]!r} is not a number') from None
+        raise Refused(f'{short(text.strip())!r} is not a number') from None
     if length > HIGHEST:
-        raise Refused(f'{length} mm is above {HIGHEST} mm')
+        raise Refused(f'{short(text.strip())} mm is above {HIGHEST} mm')
     if length < -HIGHEST:
-        raise Refused(f'{length} mm is below {-HIGHEST} mm')
+        raise Refused(f'{short(text.strip())} mm is below {-HIGHEST} mm')
     return length
 
 
@@ -54,11 +54,12 @@ def heights(name, data):
     if not rows:
         raise Refused(f'{name}: no heights')
     columns = len(rows[0][1])
+    for row, (_, texts) in enumerate(rows, 1):
+        if len(texts) != columns:
+            raise Refused(f'{name}: row {row} has {count(len(texts), "height")}, row 1 has {columns}')
     check_sizes(name, columns, len(rows))
     table = []
     for row, (line, texts) in enumerate(rows, 1):
-        if len(texts) != columns:
-            raise Refused(f'{name}: row {row} has {count(len(texts), "height")}, row 1 has {columns}')
         for column, text in enumerate(texts, 1):
             try:
                 table.append(height(text))

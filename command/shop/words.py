@@ -45,6 +45,11 @@ def flags(status):
     return ', '.join(words for bit, words in FLAGS.items() if status & bit) or 'none'
 
 
+def short(text):
+    """A text as it was given, or its beginning."""
+    return text if len(text) <= 40 else f'{text[:37]}...'
+
+
 def count(number, one, more=None):
     """A number of things: 1 row, 2 rows."""
     return f'{number:,} {one if number == 1 else more or one + "s"}'
@@ -57,9 +62,8 @@ def sizes(columns, rows, step, radius):
 
 def tell(words):
     """A line on standard error, if anyone reads it."""
-    if sys.stderr is not None:
-        with contextlib.suppress(OSError):
-            print(f'plate: {words}', file=sys.stderr, flush=True)
+    with contextlib.suppress(OSError):
+        print(f'plate: {words}', file=sys.stderr, flush=True)
 
 
 def check_sizes(name, columns, rows):

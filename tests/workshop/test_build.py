@@ -69,11 +69,6 @@ class Installed(unittest.TestCase):
         header = (self.usr / 'include' / 'plate.h').read_text(encoding='utf-8')
         self.assertEqual(names, set(re.findall(r'^(?!static)\w[^(\n]* (plate_\w+)\(', header, re.M)))
 
-    def test_manual(self):
-        for page in ('plate', 'platelist'):
-            text = (self.usr / 'share' / 'man' / 'man1' / f'{page}.1').read_text(encoding='utf-8')
-            self.assertIn(f'plate {VERSION}', text)
-
     def test_uninstall(self):
         with tempfile.TemporaryDirectory() as folder:
             for target in ('install', 'uninstall'):

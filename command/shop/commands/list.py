@@ -24,7 +24,8 @@ SUMMARY = 'make the list of centres of a map'
 def arguments(parser):
     parser.add_argument('map', metavar='MAP', help='the map, as `plate map` makes it; - is standard input')
     parser.add_argument('--rounding', choices=ROUNDINGS, required=True, help='how each offset is rounded to a micrometre')
-    parser.add_argument('-o', dest='output', metavar='FILE', type=files.output, required=True, help='the list to write; - is standard output')
+    parser.add_argument('-o', dest='output', metavar='FILE', type=files.output, required=True,
+                        help='the list to write; - is standard output')
     parser.add_argument('--lifted', action='store_true', help='lift each centre until the ball keeps off the heights round it')
 
 

@@ -46,15 +46,15 @@ def micrometres(name, length, lowest, highest):
 
 def heights(arguments):
     """The heights, row by row, and what to say of them."""
-    name, data = files.named(arguments.table), files.read(arguments.table)
+    name = files.named(arguments.table)
     if arguments.low is None and arguments.high is None:
-        table, rounded = tables.heights(name, data)
+        table, rounded = tables.heights(name, files.read(arguments.table))
         return table, [f'{count(rounded, "height")} rounded to the nearest micrometre'] if rounded else []
     if arguments.low is None or arguments.high is None:
         raise Unreadable('a picture needs both --low and --high')
     low = micrometres('--low', arguments.low, -HIGHEST, HIGHEST)
     high = micrometres('--high', arguments.high, -HIGHEST, HIGHEST)
-    return greys.heights(name, data, low, high), []
+    return greys.heights(name, files.read(arguments.table, files.LONGEST_PICTURE), low, high), []
 
 
 def whole_map(table, step, radius):

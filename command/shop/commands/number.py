@@ -3,7 +3,7 @@
 X is a decimal number (2.5, -1e-3, inf), of which the nearest binary32 number is
 taken, or the bits of one (0x40200000). --square takes X times itself first, by the
 machine's product to the nearest: a width from 2^-63 to below 2^64 is the root of
-its square again, to the nearest.
+its square again, to the nearest. The flags are those of the operation alone.
 
   plate number root down 2
   plate number inverse-root nearest 0x40800000
@@ -12,7 +12,7 @@ import re
 
 from shop import library
 from shop.formats import BINARY32, BINARY64
-from shop.words import OPERATIONS, ROUNDED, ROUNDINGS, flags, say
+from shop.words import OPERATIONS, ROUNDED, ROUNDINGS, flags, say, short
 
 SUMMARY = 'work one operation on a number'
 
@@ -30,7 +30,7 @@ def arguments(parser):
 def run(arguments):
     form, call = (BINARY64, library.binary64) if arguments.binary64 else (BINARY32, library.binary32)
     bits, exact = form.read(arguments.number)
-    lines = [] if exact else [f'{arguments.number} is taken as {form.in_digits(bits)}, the nearest {form.name} number']
+    lines = [] if exact else [f'{short(arguments.number)} is taken as {form.words(bits, digits=17)}, the nearest {form.name} number']
     if arguments.square:
         bits = form.square(bits)
         lines.append(f'its square, to the nearest, is {form.words(bits)}')

@@ -10,17 +10,26 @@ value.
 
   plate raw reciprocal 12582912
   plate raw root 8388608 --parity 1"""
+import argparse
 import decimal
+import re
 
 from shop import library
-from shop.words import OPERATIONS, Refused, refusal, say
+from shop.words import OPERATIONS, Refused, refusal, say, short
 
 SUMMARY = 'work one operation on a significand, not rounded'
 
 
+def whole(text):
+    """A whole number on the command line."""
+    if not re.fullmatch(r'-?[0-9]{1,40}|0[xX][0-9a-fA-F]{1,40}', text):
+        raise argparse.ArgumentTypeError(f'{short(text)} is not a whole number')
+    return int(text, 16) if text[1:2] in ('x', 'X') else int(text)
+
+
 def arguments(parser):
     parser.add_argument('operation', metavar='OPERATION', choices=OPERATIONS, help='reciprocal, root or inverse-root')
-    parser.add_argument('significand', metavar='Y', type=int, help='the significand, a whole number')
+    parser.add_argument('significand', metavar='Y', type=whole, help='the significand, a whole number, or its bits after 0x')
     parser.add_argument('--parity', type=int, default=0, choices=(0, 1), help='1 where the exponent is odd')
     parser.add_argument('--binary64', action='store_true', help='with 53 bits')
 
