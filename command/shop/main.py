@@ -48,6 +48,9 @@ def failed(status, words):
 def main(given=None):
     if sys.stderr is None:
         sys.stderr = open(os.devnull, 'w', encoding='utf-8')
+    if sys.stdout is not None:
+        # a file's name is printed as it is, also where it is no text
+        sys.stdout.reconfigure(errors='surrogateescape')
     try:
         try:
             arguments = parser().parse_args(given)

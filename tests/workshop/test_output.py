@@ -51,6 +51,12 @@ class Output(ShopTest):
         """A wrong command line has its status also where nobody is told."""
         self.assertEqual(self.plate('number', 'root', 'up', preexec_fn=closing(2)).returncode, 2)
 
+    def test_name_of_no_text(self):
+        """A file's name is printed as it is, byte for byte, whatever the shop's language is."""
+        name = self.write(os.fsdecode(b'\xff.plt'), map_of(ROWS))
+        printed = self.done('bracket', name, env={**ENVIRONMENT, 'PYTHONIOENCODING': 'utf-8:strict'})
+        self.assertTrue(printed.startswith(b'\xff.plt: 3 columns'))
+
     def test_errors_apart(self):
         """What goes wrong is told on standard error, and standard output stays empty."""
         for command in (['show', 'top.plt'], ['list', 'missing', '--rounding', 'up', '-o', '-'], ['map', 'top.csv'], ['raw', 'root', '1']):
