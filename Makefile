@@ -21,7 +21,7 @@ all: $(files)
 
 build/lib/libplate.a: $(proved)
 	@tools/kit
-	@echo 'proving the library: some minutes from nothing, else seconds' >&2
+	@echo 'proving the library: three to five minutes from nothing, else seconds' >&2
 	rt staticlib plate
 	install -D -m 644 target/staticlib/libplate.a $@
 
