@@ -7,6 +7,7 @@ import sys
 from shop.version import VERSION
 from shop.words import Refused, Unreadable, tell
 
+PACKAGES = ('python3-numpy', 'python3-pil', 'python3-matplotlib')
 COMMANDS = ('map', 'list', 'bracket', 'show', 'number', 'raw')
 
 EPILOG = """\
@@ -66,5 +67,7 @@ def main(given=None):
     except OSError as failure:
         name = 'standard output' if failure.filename is None else failure.filename
         return failed(2, f'{name}: {failure.strerror or failure}')
+    except ModuleNotFoundError as missing:
+        return failed(2, f"Python has no {missing.name}: install Debian's {', '.join(PACKAGES)}")
     except KeyboardInterrupt:
         return failed(130, 'stopped')

@@ -75,6 +75,12 @@ class Output(ShopTest):
             run = subprocess.run(copied, preexec_fn=limit, env=ENVIRONMENT, capture_output=True, check=False)
             self.assertEqual((run.returncode, run.stderr), (0, b''))
 
+    def test_no_package(self):
+        """A package that is not installed is named."""
+        self.write('matplotlib.py', "raise ModuleNotFoundError('no', name='matplotlib')")
+        self.fails(2, 'Python has no matplotlib: install ', *PRINTING['show'], '--picture', 'top.png',
+                   env={**ENVIRONMENT, 'PYTHONPATH': str(self.folder), 'PYTHONDONTWRITEBYTECODE': '1'})
+
     def test_library(self):
         """Another library that has not the calls is told, as one that is not there."""
         for library in ('/missing/libplate.so', 'libc.so.6', self.folder / 'top.csv'):
