@@ -3,7 +3,7 @@
 
      tests/softfloat/build FOLDER
      cc -std=c99 -O2 -Wall -Wextra -Werror -Iinclude -Itarget/softfloat tests/softfloat/compare.c \
-        target/staticlib/libplate.a target/softfloat/libsoftfloat.a -o target/compare
+        build/lib/libplate.a target/softfloat/libsoftfloat.a -o target/compare
      target/compare                          all 2^32 patterns
      target/compare --from 3F800000 --to 3FFFFFFF --step 3
 
