@@ -1,4 +1,6 @@
 // The binary32 unit: reciprocal, root and inverse root of a pattern, correctly rounded, with flags.
+#![tactic(auto)]
+
 ghost use Rattle.std.specs.Prelude.{◌≡◌, ◌+◌, ◌*◌, ◌^◌, ◌<◌};
 ghost use Rattle.ieee.specs.Format.{binary32};
 ghost use Rattle.kinds.specs.declared.Op.TheVariants.{Reciprocal, Root, InverseRoot};
@@ -21,7 +23,7 @@ const INFINITY: u32 = 0x7F80_0000;
 
 // What the binary32 call gives back: refusal 0 with the answer's bits and the new status; or the number of a question, with bits 0 and
 // the status as given.
-#[derive(Drop)]
+#[derive(Clone, Copy)]
 pub struct Reply {
     pub refusal: u8,
     pub bits: u32,

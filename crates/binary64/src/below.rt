@@ -16,7 +16,7 @@ use pattern::operand::scale;
 use pattern::parts::Parts;
 
 // A neighbour, where the entry that it needs is M.
-#[derive(Drop)]
+#[derive(Clone, Copy)]
 pub struct Found {
     pub holds: bool,
     pub neighbour: Neighbour,

@@ -1,5 +1,7 @@
 // The binary64 unit: reciprocal, root and inverse root of a pattern, correctly rounded, with flags. The roots take M from tables that the
 // caller lends, whose entry is tested before it is used.
+#![tactic(auto)]
+
 mod below;
 
 ghost use Rattle.std.specs.Prelude.{◌≡◌, true, T, length};
@@ -18,7 +20,7 @@ use rounding::round;
 use special::{is_special, special};
 
 // A pattern and the flags that its operation raises, where the entry that it needs is M.
-#[derive(Drop)]
+#[derive(Clone, Copy)]
 pub struct Tried {
     pub holds: bool,
     pub bits: u64,
@@ -27,7 +29,7 @@ pub struct Tried {
 
 // What the binary64 call gives back: refusal 0 with the answer's bits and the new status; or the number of a question, with bits 0 and
 // the status as given.
-#[derive(Drop)]
+#[derive(Clone, Copy)]
 pub struct Reply {
     pub refusal: u8,
     pub bits: u64,

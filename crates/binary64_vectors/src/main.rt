@@ -5,6 +5,8 @@
 // slice after it. r LENGTH PLACE ENTRY, operation, significand and parity is the raw call, and gives refusal and answer; b LENGTH PLACE
 // ENTRY, operation, rounding, bits and status is the binary64 call, and gives refusal, bits and status. These two are lent the first
 // numbers of the filled tables and a 0 behind them, in which the number at the place, if there is one, is the entry for this call.
+#![tactic(auto)]
+
 ghost use Rattle.std.specs.Prelude.{◌<◌, ◌≤◌, length};
 
 use libc::{STDIN_FILENO, STDOUT_FILENO};
@@ -23,7 +25,7 @@ const TABLES: usize = 131072;
 const PRIME: u64 = 4294967291;
 
 // What a line says of the lent slice, and the place behind that.
-#[derive(Drop)]
+#[derive(Clone, Copy)]
 struct Lent {
     length: usize,
     place: usize,
@@ -32,7 +34,7 @@ struct Lent {
 }
 
 // What a line says of a binary64 call, and the place behind that.
-#[derive(Drop)]
+#[derive(Clone, Copy)]
 struct Rounded {
     operation: u8,
     rounding: u8,

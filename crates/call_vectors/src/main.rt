@@ -1,6 +1,8 @@
 // Reads lines of calls, and writes for each what the call gives. A line of the raw call is r, operation, significand and parity, and gives
 // refusal and answer; one of the binary32 call is b, operation, rounding, bits and status, and gives refusal, bits and status. Bits are
 // hexadecimal, and all other numbers decimal.
+#![tactic(auto)]
+
 ghost use Rattle.std.specs.Prelude.{◌≤◌, ◌<◌, length};
 
 use libc::{STDIN_FILENO, STDOUT_FILENO};

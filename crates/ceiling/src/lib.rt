@@ -1,4 +1,6 @@
 // The square root of a whole number, rounded up: the raw root, rounded, is a start, and one test of squares settles it.
+#![tactic(auto)]
+
 ghost use Rattle.std.specs.Prelude.{◌≡◌, ◌^◌, ◌<◌};
 ghost use Rattle.ceiling.specs.Root.{ceiling_root};
 

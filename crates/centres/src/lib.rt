@@ -1,4 +1,6 @@
 // A point of a row prepared for every rounding, and kept in five numbers; the centre there, and its record.
+#![tactic(auto)]
+
 ghost use Rattle.std.specs.Prelude.{◌≡◌, ◌+◌, ◌*◌, ◌≤◌, ◌<◌, length};
 ghost use Rattle.words.specs.Splice.{splice};
 ghost use Rattle.offset.specs.Inverse.{length_most, ComponentRange, ScaleOf};
@@ -16,7 +18,7 @@ use trailer::Fields;
 use words::{Signed, put_word, wrapping_add_signed};
 
 // A point as every rounding needs it: the normal's first two components, −dx and −dy, and the radius over its length.
-#[derive(Drop)]
+#[derive(Clone, Copy)]
 pub struct Prepared {
     pub x: Component,
     pub y: Component,
@@ -24,7 +26,7 @@ pub struct Prepared {
 }
 
 // The offsets along x, y and z, in micrometres.
-#[derive(Drop)]
+#[derive(Clone, Copy)]
 pub struct Offsets {
     pub x: Signed,
     pub y: Signed,
@@ -32,7 +34,7 @@ pub struct Offsets {
 }
 
 // The words of a centre's coordinates.
-#[derive(Drop)]
+#[derive(Clone, Copy)]
 pub struct Words {
     pub x: u64,
     pub y: u64,

@@ -1,4 +1,6 @@
 // Numbers put into bytes as decimal text.
+#![tactic(auto)]
+
 ghost use Rattle.std.specs.Prelude.{[], ◌∷◌, ◌++◌, ◌+◌, ◌≤◌, ◌<◌, length};
 ghost use Rattle.decimal.specs.Digits.{decimal, sign};
 ghost use Rattle.decimal.specs.Put.{PutAt};

@@ -1,4 +1,6 @@
 // A trailer put over bytes, part by part, each by its place from the trailer's first byte.
+#![tactic(auto)]
+
 ghost use Rattle.std.specs.Prelude.{◌≡◌, ◌+◌, ◌≤◌, length};
 ghost use Rattle.words.specs.Splice.{splice};
 ghost use Rattle.trailer.specs.Kinds.{length_of, radius_size, rounding_size};

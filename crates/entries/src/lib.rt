@@ -1,5 +1,7 @@
 // The test of a table's entry at k = 15: whether a number is M, or at most M, by multiplications. At most M are the numbers whose half below,
 // (2w − 1) / 2, is under the exact M.
+#![tactic(auto)]
+
 ghost use Rattle.std.specs.Prelude.{◌≡◌, ◌+◌, ◌*◌, ◌-◌, ◌≤◌, ◌<◌, ◌^◌, ltb, leb, eqb};
 ghost use Rattle.significand.specs.Width.{k64};
 ghost use Rattle.significand.specs.Steps.{multiplier_of};

@@ -1,5 +1,7 @@
 // The table of R by the seven lower bits of i, which is from 128 to 255. It is a match on that key, which is compiled to a table in
 // read-only memory, and its rule is proved at all entries by one computed test.
+#![tactic(auto)]
+
 ghost use Rattle.std.specs.Prelude.{◌≡◌, ◌<◌};
 ghost use Rattle.significand.specs.Width.{k32};
 ghost use Rattle.significand.specs.Steps.{factor_of};

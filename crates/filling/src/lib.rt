@@ -1,5 +1,7 @@
 // The tables of M at k = 15, filled into a lent slice. Each entry starts from an earlier one and is settled by the test of entries: whatever
 // the start, the entry is M, so nothing is said of the starts; near ones only save steps.
+#![tactic(auto)]
+
 ghost use Rattle.std.specs.Prelude.{◌≡◌, ◌^◌, ◌<◌, ◌≤◌, length, slice_index, slice_set};
 ghost use Rattle.significand.specs.Width.{k64};
 ghost use Rattle.significand.specs.Steps.{factor_of, multiplier_of};

@@ -1,5 +1,7 @@
 // The floor of an exact result with one guard bit, from a raw answer at k = 7. Its distances leave two or three numbers, and how many of
 // them have a side above the target is told by one remainder, and by the remainder and one step.
+#![tactic(auto)]
+
 pub mod taken;
 
 ghost use Rattle.std.specs.Prelude.{◌≡◌, ◌^◌, ◌<◌, ◌≤◌, not, ◌&&◌, ◌==◌, nat_lt};
@@ -13,7 +15,7 @@ use std::num::wrapping_add_u64;
 use wide::low_product;
 
 // A floor, and whether something lies above it.
-#[derive(Drop)]
+#[derive(Clone, Copy)]
 pub struct Floor {
     pub quotient: u64,
     pub more: bool,

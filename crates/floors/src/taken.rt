@@ -14,7 +14,7 @@ use std::num::wrapping_sub_u64;
 use wide::low_product;
 
 // The significand, and whether the exact result is another number.
-#[derive(Drop)]
+#[derive(Clone, Copy)]
 pub struct Taken {
     pub significand: u64,
     pub more: bool,

@@ -1,5 +1,7 @@
 // The floor of an exact result with one guard bit, from a raw answer at k = 15. Twice the distance is less than one of the floor's steps, so
 // that the floor is the number tried or the one before; the remainder of the number tried decides.
+#![tactic(auto)]
+
 ghost use Rattle.std.specs.Prelude.{◌≡◌, ◌<◌, ◌≤◌};
 ghost use Rattle.kinds.specs.declared.Op.TheVariants.{Reciprocal, Root, InverseRoot};
 ghost use Rattle.significand.specs.Width.{k64, t64, Significand, Operand};

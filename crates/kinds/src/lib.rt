@@ -1,4 +1,6 @@
 // The operations, the roundings and the rules for centres by their cases, the flags by their bits, questions, and the choice between two neighbours.
+#![tactic(auto)]
+
 ghost use Rattle.std.specs.Int.Bits.{bit_or};
 ghost use Rattle.std.specs.Prelude.{◌%◌, ◌≡◌};
 ghost use Rattle.kinds.specs.Operation.{is_operation, op_of, is_reciprocal};
@@ -6,7 +8,7 @@ ghost use Rattle.kinds.specs.Rounding.{is_rounding, mode_of, number_of, away};
 ghost use Rattle.kinds.specs.Question.{ask as question_ask};
 ghost use Rattle.kinds.specs.Guard.{place_of};
 
-#[derive(Drop)]
+#[derive(Clone, Copy)]
 pub enum Op {
     Reciprocal,
     Root,
@@ -45,13 +47,13 @@ impl Op {
 
 // The rule that the centres of a list follow: the ball touches the surface at its point (document 01), or is lifted off the heights round
 // it (document 02, #104).
-#[derive(Drop)]
+#[derive(Clone, Copy)]
 pub enum Rule {
     Touching,
     Lifted,
 }
 
-#[derive(Drop)]
+#[derive(Clone, Copy)]
 pub enum Mode {
     Nearest,
     Up,
@@ -93,7 +95,7 @@ impl Mode {
 }
 
 // The bits of the flags.
-#[derive(Drop)]
+#[derive(Clone, Copy)]
 pub struct Flags;
 
 impl Flags {

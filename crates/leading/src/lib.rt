@@ -1,9 +1,11 @@
 // The leading bits of a whole number: a significand as the raw unit takes it, and the power of two that goes with it.
+#![tactic(auto)]
+
 ghost use Rattle.std.specs.Prelude.{◌<◌};
 ghost use Rattle.leading.specs.Leading.{LeadingOf};
 
 // The 24 highest bits, and the place of the highest, counted from 0.
-#[derive(Drop)]
+#[derive(Clone, Copy)]
 pub struct Leading {
     pub significand: u32,
     pub exponent: u32,

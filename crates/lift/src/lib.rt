@@ -1,4 +1,6 @@
 // The lift of a record: its words are taken, z is lifted over the nine heights round its point, and the words are put back.
+#![tactic(auto)]
+
 ghost use Rattle.std.specs.Prelude.{◌≡◌, ◌+◌, ◌≤◌, ◌<◌, length, pos, nat_abs, ◌-ℤ◌};
 ghost use Rattle.words.specs.Signed.{signed, word_of};
 ghost use Rattle.words.specs.Parts.{parts_of};

@@ -1,10 +1,12 @@
 // Numbers in lines of text, for programs that read vectors. A number is its digits, and one byte behind them separates it from the next.
+#![tactic(auto)]
+
 ghost use Rattle.std.specs.Prelude.{◌≡◌, ◌+◌, ◌≤◌, ◌<◌, ◌^◌, min, length};
 ghost use Rattle.lines.specs.Read.{Passed, Read};
 ghost use Rattle.lines.specs.Hex.{hex_digit, hex_of};
 
 // A number that was read, and the place behind its separator.
-#[derive(Drop)]
+#[derive(Clone, Copy)]
 pub struct Number {
     pub value: u64,
     pub next: usize,

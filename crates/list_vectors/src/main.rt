@@ -1,5 +1,7 @@
 // Runs both list calls on frames from standard input and writes what each call answers, with a digest of the buffer after it.
 // A frame is the map's length and the buffer's, 4 bytes each, little-endian, and the map.
+#![tactic(auto)]
+
 ghost use Rattle.std.specs.Prelude.{◌<◌};
 
 use libc::{STDIN_FILENO, STDOUT_FILENO};

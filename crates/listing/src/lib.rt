@@ -1,5 +1,7 @@
 // The list call of a rule: its questions, and the list of a map, the cutter's centres at its inner points, put at the front of a lent
 // buffer.
+#![tactic(auto)]
+
 ghost use Rattle.std.specs.Prelude.{◌≡◌, length};
 ghost use Rattle.words.specs.Splice.{splice};
 ghost use Rattle.cutter.specs.List.{list_length, list_bytes};
@@ -13,7 +15,7 @@ use sizes::records_length;
 use trailer::{Fields, Kind, length_of, read_last};
 
 // What a list call gives back: refusal 0 with the length of the list; or the number of a question, with length 0.
-#[derive(Drop)]
+#[derive(Clone, Copy)]
 pub struct Reply {
     pub refusal: u8,
     pub length: usize,

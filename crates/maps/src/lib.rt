@@ -1,4 +1,6 @@
 // Reading a map: the questions that are asked of it and of the lent buffer, and its heights.
+#![tactic(auto)]
+
 ghost use Rattle.std.specs.Prelude.{◌≡◌, ◌+◌, ◌*◌, ◌%◌, ◌≤◌, ◌<◌, length, leb, nat_abs};
 ghost use Rattle.std.proofs.Math.IntN.{sub_ℕ};
 ghost use Rattle.words.specs.Word.{word_at};

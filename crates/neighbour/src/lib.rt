@@ -1,4 +1,6 @@
 // From a floor with a guard bit at its scale to the pattern below the exact result.
+#![tactic(auto)]
+
 pub mod scales;
 
 ghost use Rattle.std.specs.Prelude.{◌≡◌, suc, ◌-◌, ◌^◌, ◌≤◌, ◌<◌, min};
@@ -9,7 +11,7 @@ use pattern::Width;
 
 // The finite pattern below an exact result. The midpoint to the next is reached where `half` is true, and something lies above what
 // is reached where `more` is true. `beyond` says that the exact result is infinity's number, 2^128 or 2^1024, or more.
-#[derive(Drop)]
+#[derive(Clone, Copy)]
 pub struct Neighbour {
     pub pattern: u64,
     pub half: bool,

@@ -7,7 +7,7 @@ use kinds::Op;
 use pattern::Width;
 
 // The scale, and the parity that makes it whole.
-#[derive(Drop)]
+#[derive(Clone, Copy)]
 pub struct Scales {
     pub scale: u64,
     pub parity: u64,
@@ -15,7 +15,7 @@ pub struct Scales {
 
 // The scale of the reciprocal at exponent 0, and twice those of the roots. They are 2u − (m + 2) + 3, u − 2(m + 1) + 6 and
 // 3u − 2(m + 2) + 6: magnitudes are counted in units of 2^-u, u 149 or 1074, and a fraction has m bits, 23 or 52.
-#[derive(Drop)]
+#[derive(Clone, Copy)]
 pub struct FirstScales {
     pub reciprocal: u64,
     pub root: u64,

@@ -1,4 +1,6 @@
 // The lift of a centre's z over the nine heights round its point. Heights have a bias, so that none is negative.
+#![tactic(auto)]
+
 ghost use Rattle.std.specs.Prelude.{◌≡◌, ◌^◌, ◌≤◌, ◌<◌};
 ghost use Rattle.cutter.specs.Limits.{step_most, radius_most};
 ghost use Rattle.cutter.specs.Map.{Inner};

@@ -1,4 +1,6 @@
 // The normal at a point of a map.
+#![tactic(auto)]
+
 ghost use Rattle.std.specs.Prelude.{◌≡◌, ◌+◌, ◌*◌, ◌≤◌, ◌<◌, ◌-ℤ◌};
 ghost use Rattle.words.specs.Word.{word_at};
 ghost use Rattle.words.specs.Signed.{signed};
@@ -22,7 +24,7 @@ fn slope(map: &[u8], i: usize, j: usize, count: usize) -> Signed
 }
 
 // The normal by its first two components, −dx and −dy, and its squared length.
-#[derive(Drop)]
+#[derive(Clone, Copy)]
 pub struct Normal {
     pub x: Signed,
     pub y: Signed,

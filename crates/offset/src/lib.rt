@@ -1,5 +1,7 @@
 // An offset's magnitude, a component of the normal times the radius over the normal's length, as a whole number: an inverse root that
 // is a little too small gives a start, one test of squares decides.
+#![tactic(auto)]
+
 ghost use Rattle.std.specs.Prelude.{◌≡◌, ◌*◌, ◌^◌, ◌<◌, ◌≤◌};
 ghost use Rattle.kinds.specs.Guard.{rest_of};
 ghost use Rattle.cutter.specs.Offset.{rounded_over};
@@ -11,7 +13,7 @@ use std::num::{wrapping_add_u64, wrapping_sub_u64};
 use wide::low_product;
 
 // A component of the normal by its sign and its magnitude, with the square of that.
-#[derive(Drop)]
+#[derive(Clone, Copy)]
 pub struct Component {
     pub negative: bool,
     pub magnitude: u64,

@@ -7,7 +7,7 @@ ghost use Rattle.pattern.specs.Width.{format_of};
 use crate::Width;
 
 // A pattern and the flags that its operation raises.
-#[derive(Drop)]
+#[derive(Clone, Copy)]
 pub struct Rounded {
     pub bits: u64,
     pub flags: u8,

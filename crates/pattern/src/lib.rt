@@ -1,4 +1,6 @@
 // Patterns of both formats, in 64 bits: their parts, an operand's significand and scale, and how an answer is put together.
+#![tactic(auto)]
+
 pub mod answer;
 pub mod operand;
 pub mod parts;
@@ -6,7 +8,7 @@ pub mod parts;
 ghost use Rattle.pattern.specs.Width.{format_of, ConstantsOf};
 
 // The format that a pattern has.
-#[derive(Drop)]
+#[derive(Clone, Copy)]
 pub enum Width {
     Binary32,
     Binary64,
@@ -14,7 +16,7 @@ pub enum Width {
 
 // The numbers of a format: how many bits a fraction has, and how many stand below the sign; the mask of an exponent; the sign's bit, the
 // patterns of the least normal number and of infinity, and the top bit of a fraction, which is 1 in a quiet NaN and 0 in a signalling one.
-#[derive(Drop)]
+#[derive(Clone, Copy)]
 pub struct Constants {
     pub fraction: u64,
     pub place: u64,

@@ -10,7 +10,7 @@ use crate::parts::Parts;
 
 // A magnitude, counted in units of 2^-149 or 2^-1074: times 2^23 or 2^52 it is significand × 2^exponent, and the significand has 24 or
 // 53 bits.
-#[derive(Drop)]
+#[derive(Clone, Copy)]
 pub struct Scaled {
     pub significand: u64,
     pub exponent: u64,

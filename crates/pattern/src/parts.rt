@@ -7,7 +7,7 @@ ghost use Rattle.pattern.specs.Parts.{PartsOf};
 use crate::Width;
 
 // The sign, 0 or 1, the exponent and the fraction; and the pattern without its sign.
-#[derive(Drop)]
+#[derive(Clone, Copy)]
 pub struct Parts {
     pub sign: u64,
     pub exponent: u64,

@@ -62,7 +62,7 @@ pub extern "C" fn plate_binary32(operation: u8, rounding: u8, status: u8, bits: 
 
 // The binary64 call's reply for C, whose answer leaves no room in one number.
 #[repr(C)]
-#[derive(Drop)]
+#[derive(Clone, Copy)]
 pub struct CBinary64Reply {
     pub refusal: u8,
     pub status: u8,
@@ -117,7 +117,7 @@ pub extern "C" fn plate_lifted_list(rounding: u8, map: &[u8], buffer: &mut [u8])
 // The record call's reply for C, which can be handed no cases: the rounding by its number, and 255, which no call takes for a rounding,
 // where it is unknown.
 #[repr(C)]
-#[derive(Drop)]
+#[derive(Clone, Copy)]
 pub struct CRecordReply {
     pub refusal: u8,
     pub rounding: u8,

@@ -2,6 +2,8 @@
 // anything of its caller: an operand that a call cannot take gets the number of the first question that it fails. The calls have one
 // shape: the questions first, on numbers as they come; then the work, an operation and a rounding being cases by then. They have it in
 // their layers, and here hand the reply on in the types that users name.
+#![tactic(auto)]
+
 mod c;
 
 ghost use Rattle.std.specs.Prelude.{◌≡◌, length};
@@ -18,7 +20,7 @@ ghost use Rattle.plate.specs.Record.{list_rounding, record_call};
 use kinds::{Flags, Rule, joined};
 
 // An operation by its number.
-#[derive(Drop)]
+#[derive(Clone, Copy)]
 pub struct Operation(pub u8);
 
 impl Operation {
@@ -30,7 +32,7 @@ impl Operation {
 }
 
 // A rounding by its number.
-#[derive(Drop)]
+#[derive(Clone, Copy)]
 pub struct Rounding(pub u8);
 
 impl Rounding {
@@ -44,7 +46,7 @@ impl Rounding {
 }
 
 // A flag, or several, by its bit.
-#[derive(Drop)]
+#[derive(Clone, Copy)]
 pub struct Flag(pub u8);
 
 impl Flag {
@@ -60,7 +62,7 @@ impl Flag {
 }
 
 // The flags that were raised since the status was last cleared, one bit each.
-#[derive(Drop)]
+#[derive(Clone, Copy)]
 pub struct Status {
     pub flags: u8,
 }
@@ -91,7 +93,7 @@ impl Status {
 }
 
 // What the raw call gives back: refusal 0 with the answer g, which stands for g / 2^28; or the number of a question, with answer 0.
-#[derive(Drop)]
+#[derive(Clone, Copy)]
 pub struct RawReply {
     pub refusal: u8,
     pub answer: u32,
@@ -123,7 +125,7 @@ pub fn fill_tables(tables: &mut [u64]) -> u8
 // What the raw call for significands of 53 bits gives back: refusal 0 with the answer g, which stands for g / 2^60; or the number of a
 // question, with answer 0. C is handed the same struct.
 #[repr(C)]
-#[derive(Drop)]
+#[derive(Clone, Copy)]
 pub struct Raw64Reply {
     pub refusal: u8,
     pub answer: u64,
@@ -143,7 +145,7 @@ pub fn raw64(operation: Operation, significand: u64, parity: u8, tables: &[u64])
 
 // What the binary32 call gives back: refusal 0 with the answer's bits and the new status; or the number of a question, with bits 0 and
 // the status as given.
-#[derive(Drop)]
+#[derive(Clone, Copy)]
 pub struct Binary32Reply {
     pub refusal: u8,
     pub bits: u32,
@@ -168,7 +170,7 @@ pub fn binary32(
 }
 
 // What the binary64 call gives back, as the binary32 call does.
-#[derive(Drop)]
+#[derive(Clone, Copy)]
 pub struct Binary64Reply {
     pub refusal: u8,
     pub bits: u64,
@@ -194,7 +196,7 @@ pub fn binary64(
 }
 
 // What a list call gives back: refusal 0 with the length of the list; or the number of a question, with length 0.
-#[derive(Drop)]
+#[derive(Clone, Copy)]
 pub struct ListReply {
     pub refusal: u8,
     pub length: usize,
@@ -224,7 +226,7 @@ pub fn lifted_list(rounding: Rounding, map: &[u8], buffer: &mut [u8]) -> ListRep
 }
 
 // Which rounding made a list, as its trailer states it: unknown where that has none, as in lists of document 01.
-#[derive(Drop)]
+#[derive(Clone, Copy)]
 pub enum ListRounding {
     Unknown,
     Known(Rounding),
@@ -233,7 +235,7 @@ pub enum ListRounding {
 // What the record call gives back: refusal 0 with the rounding and the sizes of the list's trailer, columns and rows first, and the
 // record's coordinates, in micrometres like step and radius; or the number of a question, the rounding unknown, and 0 in every other
 // place.
-#[derive(Drop)]
+#[derive(Clone, Copy)]
 pub struct RecordReply {
     pub refusal: u8,
     pub rounding: ListRounding,

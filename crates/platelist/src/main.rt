@@ -1,4 +1,6 @@
 // Reads a map from standard input and prints its list, rounding nearest.
+#![tactic(auto)]
+
 ghost use Rattle.io.specs.Counts.{IsPrefixLen};
 
 use libc::{STDIN_FILENO, STDOUT_FILENO};

@@ -1,4 +1,6 @@
 // The lines of a list as text, put number by number.
+#![tactic(auto)]
+
 ghost use Rattle.std.specs.Prelude.{[], ◌∷◌, ◌+◌, ◌*◌, ◌≤◌, ◌<◌, length, pos};
 ghost use Rattle.words.specs.Joined.{joined};
 ghost use Rattle.trailer.specs.Bytes.{InRange};

@@ -1,4 +1,6 @@
 // z raised over one height and over three of a row. Heights have a bias, so that none is negative.
+#![tactic(auto)]
+
 ghost use Rattle.std.specs.Prelude.{◌≡◌, ◌+◌, ◌-◌, ◌*◌, ◌^◌, ◌≤◌, ◌<◌, ltb};
 ghost use Rattle.cutter.specs.Accepted.{Ready};
 ghost use Rattle.numbers.specs.Least.{LeastFrom, NotPast};
@@ -10,7 +12,7 @@ use maps::height_at;
 use trailer::Fields;
 
 // The squares of the level distances along x or y: to the column or row before the point, to its own, and to the one behind.
-#[derive(Drop)]
+#[derive(Clone, Copy)]
 pub struct Squares {
     pub before: u64,
     pub own: u64,

@@ -1,5 +1,7 @@
 // The raw unit at k = 7: the reciprocal, the root and the inverse root of a significand by a table, a short series and one product.
 // The functions follow the numbered steps; an answer g stands for g / 2^28.
+#![tactic(auto)]
+
 ghost use Rattle.std.specs.Prelude.{◌≡◌, ◌*◌, ◌/◌, ◌≤◌, ◌<◌, ◌^◌, eqb};
 ghost use Rattle.kinds.specs.declared.Op.TheVariants.{Reciprocal, Root, InverseRoot};
 ghost use Rattle.significand.specs.Width.{k32, t32, Significand, Operand};
@@ -17,7 +19,7 @@ const LEAST_SIGNIFICAND: u32 = 8388608;
 const SIGNIFICAND_LIMIT: u32 = 16777216;
 
 // What the raw call gives back: refusal 0 with the answer; or the number of a question, with answer 0.
-#[derive(Drop)]
+#[derive(Clone, Copy)]
 pub struct Reply {
     pub refusal: u8,
     pub answer: u32,

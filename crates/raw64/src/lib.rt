@@ -1,5 +1,7 @@
 // The raw unit at k = 15: as at k = 7, with R by division and with M from tables that the caller lends, whose entry is tested before it
 // is used. An answer g stands for g / 2^60.
+#![tactic(auto)]
+
 ghost use Rattle.std.specs.Prelude.{◌≡◌, ◌/◌, ◌≤◌, ◌<◌, ◌^◌, false, T, length, get_or};
 ghost use Rattle.kinds.specs.declared.Op.TheVariants.{Reciprocal};
 ghost use Rattle.kinds.specs.Operation.{is_reciprocal};
@@ -26,14 +28,14 @@ const ENTRIES: usize = 32768;
 pub const TABLES: usize = 4 * ENTRIES;
 
 // An answer, where the entry that it needs is M.
-#[derive(Drop)]
+#[derive(Clone, Copy)]
 pub struct Tried {
     pub holds: bool,
     pub answer: u64,
 }
 
 // What the raw call gives back: refusal 0 with the answer; or the number of a question, with answer 0.
-#[derive(Drop)]
+#[derive(Clone, Copy)]
 pub struct Reply {
     pub refusal: u8,
     pub answer: u64,

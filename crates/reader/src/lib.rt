@@ -1,4 +1,6 @@
 // Reading a list back: the record call, the questions that the list's bytes are asked, and then an index; and the numbers of a record.
+#![tactic(auto)]
+
 ghost use Rattle.std.specs.Prelude.{◌≡◌, ◌+◌, ◌*◌, ◌≤◌, ◌<◌, length};
 ghost use Rattle.cutter.specs.List.{entry_at};
 ghost use Rattle.reader.specs.Reader.{reader_refusal, record_refusal};
@@ -10,7 +12,7 @@ use words::{i32_of, word_at};
 
 // What the record call gives back: refusal 0, whether the list's trailer states a rounding, its number, the trailer's sizes and the
 // record's coordinates; or the number of a question, no rounding stated, and 0 in every other place.
-#[derive(Drop)]
+#[derive(Clone, Copy)]
 pub struct Reply {
     pub refusal: u8,
     pub stated: bool,

@@ -1,6 +1,8 @@
 // Runs the record call on frames from standard input, and writes a line for each call: refusal, rounding, w, d, step, radius, x, y, z; an
 // unknown rounding is a dash.
 // A frame is the list's length and the number of indexes, 4 bytes each, the list, and the indexes, 8 bytes each; all little-endian.
+#![tactic(auto)]
+
 use libc::{STDIN_FILENO, STDOUT_FILENO};
 use plate::{ListRounding, record};
 use words::{parts_of, word_at};

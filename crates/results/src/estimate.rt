@@ -9,7 +9,7 @@ use pattern::Width;
 use pattern::operand::Scaled;
 
 // The raw answer, and the scale of the result.
-#[derive(Drop)]
+#[derive(Clone, Copy)]
 pub struct Estimate {
     pub answer: u64,
     pub scales: Scales,

@@ -1,5 +1,7 @@
 // Results of binary32 operands that are finite and not zero, from the raw answer: a normal one by the short way of its operation, and any
 // by its floor.
+#![tactic(auto)]
+
 mod estimate;
 pub mod normal;
 

@@ -1,6 +1,8 @@
 // The table of R and M of the root, a row for each key: the seven lower bits of i, from 128 to 255, the parity above them, and a one
 // above both. It is a match on the key, which is compiled to tables in read-only memory, and its rule is proved at all rows by one
 // computed test. Without that one a key has eight bits, and the compiler spends an instruction more on it.
+#![tactic(auto)]
+
 ghost use Rattle.std.specs.Prelude.{◌≤◌, ◌<◌};
 ghost use Rattle.kinds.specs.declared.Op.TheVariants.{Root};
 ghost use Rattle.significand.specs.Width.{k32};

@@ -1,4 +1,6 @@
 // From the pattern below the exact result to the rounded pattern and its flags, and the short way of a normal result.
+#![tactic(auto)]
+
 pub mod normal;
 
 ghost use Rattle.std.specs.Prelude.{◌≡◌, cond, ◌≤◌, ◌<◌};

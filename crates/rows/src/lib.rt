@@ -1,4 +1,6 @@
 // The records of a map's inner points, put row by row, and lifted where the rule asks for it.
+#![tactic(auto)]
+
 ghost use Rattle.std.specs.Prelude.{◌≡◌, ◌+◌, ◌-◌, ◌*◌, ◌≤◌, ◌<◌, length};
 ghost use Rattle.words.specs.Splice.{splice};
 ghost use Rattle.words.specs.Joined.{joined};

@@ -1,5 +1,7 @@
 // Steps 2 and 3 of the raw unit at k = 7: the reduction of a significand, and the three series. The sign, the magnitude and the form of
 // the terms are those of every k.
+#![tactic(auto)]
+
 ghost use Rattle.std.specs.Prelude.{◌≡◌, ◌*◌, ◌/◌, ◌<◌, ◌^◌, nat_abs};
 ghost use Rattle.kinds.specs.declared.Op.TheVariants.{Reciprocal, Root, InverseRoot};
 ghost use Rattle.significand.specs.Width.{k32, t32, Significand};
@@ -7,7 +9,7 @@ ghost use Rattle.significand.specs.Steps.{unit as steps_unit, factor_of, series_
 ghost use Rattle.series.specs.Parts.{Reduced, TermsOf};
 
 // The sign and the magnitude of a reduction.
-#[derive(Drop)]
+#[derive(Clone, Copy)]
 pub struct Reduction {
     pub positive: bool,
     pub magnitude: u64,
@@ -41,7 +43,7 @@ pub fn unit(positive: bool) -> i64
 }
 
 // What the three sums are made of: s, a, 2^k·a2² + 2·a2·a3 and h·a2.
-#[derive(Drop)]
+#[derive(Clone, Copy)]
 pub struct Terms {
     pub sign: i64,
     pub linear: i64,

@@ -1,4 +1,6 @@
 // Steps 1 to 3 and 5 of the raw unit at k = 15. The printed sums have up to 80 bits; here each is worked out in two parts, of one word.
+#![tactic(auto)]
+
 ghost use Rattle.std.specs.Prelude.{◌≡◌, ◌*◌, ◌/◌, ◌≤◌, ◌<◌, ◌^◌};
 ghost use Rattle.kinds.specs.declared.Op.TheVariants.{Reciprocal, Root, InverseRoot};
 ghost use Rattle.significand.specs.Width.{k64, t64, Significand};

@@ -1,4 +1,6 @@
 // The questions that a map and a list are asked alike, about the trailer that they end in, and the length of a list by its sizes.
+#![tactic(auto)]
+
 ghost use Rattle.std.specs.Prelude.{◌≡◌, ◌*◌, ◌≤◌};
 ghost use Rattle.cutter.specs.List.{count_of};
 ghost use Rattle.cutter.specs.Sizes.{is_sized, is_stepped, trailer_refusal, is_whole};

@@ -1,4 +1,6 @@
 // Operands that need no arithmetic: NaN before the sign, then a negative operand of a root, then zeros, then infinities.
+#![tactic(auto)]
+
 ghost use Rattle.std.specs.Prelude.{◌≡◌, cond, ◌*◌, ◌<◌};
 ghost use Rattle.kinds.specs.Flag.{no_flag, invalid, division_by_zero};
 ghost use Rattle.ieee.specs.Format.{sign_bit, infinity, quiet_nan};

@@ -1,5 +1,7 @@
 // Square, then root: a width that is squared, by the language's own product, and whose root is taken by the unit comes back. The
 // function is no call of the unit; it stands for what a shop writes around one.
+#![tactic(auto)]
+
 ghost use Rattle.std.specs.Prelude.{◌≡◌, T};
 ghost use Rattle.square.specs.Width.{is_width, root_of_square};
 

@@ -1,4 +1,6 @@
 // The text that `platelist` prints, put into a lent buffer.
+#![tactic(auto)]
+
 ghost use Rattle.std.specs.Prelude.{◌≡◌, [], ◌∷◌, ◌++◌, ◌+◌, ◌-◌, ◌*◌, ◌≤◌, ◌<◌, length, pos};
 ghost use Rattle.words.specs.Joined.{joined};
 ghost use Rattle.trailer.specs.Bytes.{InRange};

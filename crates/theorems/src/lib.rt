@@ -1,6 +1,8 @@
 // What is promised beyond one call: demand 3 of two calls, a lifted list beside the list before the lift, a list read back, flags that
 // stay, packed replies taken apart, and document 01's table. The code does nothing: its contracts say which numbers the names of
 // operations, roundings and flags have.
+#![tactic(auto)]
+
 ghost use Rattle.std.specs.Prelude.{◌≡◌};
 ghost use Rattle.significand.specs.Width.{k64};
 ghost use Rattle.significand.specs.Tables.{tables_length};

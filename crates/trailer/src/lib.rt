@@ -1,4 +1,6 @@
 // Trailers: what each kind of trailer holds, read by its place from the trailer's first byte.
+#![tactic(auto)]
+
 ghost use Rattle.std.specs.Prelude.{◌≡◌, ◌+◌, ◌≤◌, length};
 ghost use Rattle.trailer.specs.Kinds.{LayoutIs, length_of, radius_size, rounding_size};
 ghost use Rattle.trailer.specs.Bytes.{ends_in, list_kind};
@@ -7,7 +9,7 @@ ghost use Rattle.trailer.specs.Reading.{RadiusRead, RoundingRead, TrailerRead, L
 use words::{half_at, reads_at, word_at};
 
 // The trailers of maps and of lists.
-#[derive(Drop)]
+#[derive(Clone, Copy)]
 pub enum Kind {
     Plt1,
     Cut1,
@@ -16,7 +18,7 @@ pub enum Kind {
 
 // What follows the letters: the distance from the trailer's first byte back to the first of what it describes; the sizes of the map;
 // step and radius in micrometres; and the rounding, which is 0 in a kind that has none.
-#[derive(Drop)]
+#[derive(Clone, Copy)]
 pub struct Fields {
     pub distance: u64,
     pub width: usize,
@@ -28,7 +30,7 @@ pub struct Fields {
 
 // What a kind fixes: its letters, its length in bytes, whether the radius has 32 bits and not 16, and whether a rounding of 16 bits
 // stands last.
-#[derive(Drop)]
+#[derive(Clone, Copy)]
 pub struct Layout {
     pub letters: [u8; 4],
     pub length: usize,

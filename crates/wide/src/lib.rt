@@ -1,11 +1,13 @@
 // Numbers of two words: the product of two numbers of 64 bits, whole and its lower word, and the lower words of a product of three.
+#![tactic(auto)]
+
 ghost use Rattle.std.specs.Prelude.{◌≡◌, ◌*◌, ◌%◌, ◌^◌, ◌<◌, ◌≤◌};
 ghost use Rattle.wide.specs.Wide.{wide_of, lower_of};
 
 use std::num::wrapping_add_u64;
 
 // A number of 128 bits: high × 2^64 + low.
-#[derive(Drop)]
+#[derive(Clone, Copy)]
 pub struct Wide {
     pub high: u64,
     pub low: u64,

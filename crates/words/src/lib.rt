@@ -1,4 +1,6 @@
 // Little-endian numbers and letters in bytes, read and put, and signed numbers in unsigned code.
+#![tactic(auto)]
+
 ghost use Rattle.std.specs.Prelude.{◌≡◌, ◌+◌, ◌≤◌, ◌<◌, length, ◌+ℤ◌};
 ghost use Rattle.std.proofs.Math.IntN.{sub_ℕ};
 ghost use Rattle.words.specs.Word.{half_at, word_at, half_bytes, word_bytes, reads_at};
@@ -74,7 +76,7 @@ pub fn put_word(out: &mut [u8], at: usize, x: u64)
 }
 
 // A signed number by its sign and its magnitude; 0 is not negative.
-#[derive(Drop)]
+#[derive(Clone, Copy)]
 pub struct Signed {
     pub negative: bool,
     pub magnitude: u64,
