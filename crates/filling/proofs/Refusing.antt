@@ -1,5 +1,5 @@
 -- The filling call that is refused or accepted. Assumes nothing.
-use Rattle.std.proofs.Common.{◌≡◌, ℕ, List, length, sym, refl, ◌∙◌, arith, eq-eqb, ne_eqb}
+use Rattle.std.proofs.Common.{◌≡◌, ℕ, List, length, refl, eq-eqb, ne_eqb}
 use Rattle.kinds.proofs.Questions.{ask-yes, ask-no}
 use Rattle.significand.specs.Width.{k64}
 use Rattle.significand.specs.Tables.{tables, tables_length}

@@ -1,24 +1,23 @@
 -- The raw calls' questions and answers at k = 15, from the entry of the lent tables on. Assumes nothing.
-use mathlib.Core.Path.{◌≡◌, refl, sym, ap, ◌∙◌}
-use mathlib.Core.Bool.{Bool, true, false, not, cond, ◌&&◌, ◌||◌, true≢false}
+use mathlib.Core.Path.{◌≡◌, refl, sym, ◌∙◌}
+use mathlib.Core.Bool.{Bool, true, false, not, ◌&&◌, ◌||◌, true≢false}
 use mathlib.Core.List.{List}
 use Prim.Native.Nat.{ℕ, ◌+◌, ◌*◌, ◌-◌, ◌/◌, ◌^◌, ◌≤◌, ◌<◌}
 use native.Mathlib.Omega.{arith}
 use lib.Dec.{T, eqb, leb, ltb, eqb→eq}
-use lib.ListN.{length, get_or}
+use lib.ListN.{get_or}
 use Rattle.kinds.specs.declared.Op.{Op}
 use Rattle.kinds.specs.declared.Op.TheVariants.{Reciprocal, Root, InverseRoot}
 use Rattle.kinds.specs.Operation.{is_operation, op_of, is_reciprocal}
 use Rattle.kinds.specs.Question.{ask}
 use Rattle.significand.specs.Width.{k64, t64, Significand, Operand}
-use Rattle.significand.specs.Steps.{index_of, factor_of, sign_of, reduced_of, series_of, multiplier_of, raw_of}
+use Rattle.significand.specs.Steps.{index_of, factor_of, series_of, multiplier_of, raw_of}
 use Rattle.significand.specs.Tables.{tables_before, tables_length, entry_place}
 use Rattle.significand.specs.Call.{is_lent, is_entry, raw64_door}
 use Rattle.significand.proofs.Reduction.{index-least, index_below}
 use Rattle.significand.proofs.Sizes.{multiplier64-most}
 use Rattle.series.specs.declared.Reduction.{Reduction}
 use Rattle.series.specs.Parts.{Reduced}
-use Rattle.raw64.specs.declared.Tried.{Tried}
 use Rattle.raw64.specs.Tried.{tried_of}
 
 -- the questions, each worked out by itself

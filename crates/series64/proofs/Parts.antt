@@ -1,6 +1,6 @@
 -- Steps 1, 2 and 5 at k = 15 as the code works them. Assumes nothing.
-use mathlib.Core.Path.{◌≡◌, refl, sym, ap, ◌∙◌}
-use mathlib.Core.List.{List, [], ◌∷◌}
+use mathlib.Core.Path.{◌≡◌, sym, ap, ◌∙◌}
+use mathlib.Core.List.{[], ◌∷◌}
 use Prim.Native.Nat.{ℕ, ◌+◌, ◌*◌, ◌-◌, ◌/◌, ◌%◌, ◌^◌, ◌≤◌, ◌<◌}
 use native.Mathlib.Nat.{mul-le-mul, mul-div-le, lt-mul-div-succ}
 use native.Mathlib.Omega.{arith}
@@ -8,7 +8,7 @@ use lib.IntN.{ℤ, pos, nat_abs, ◌-ℤ◌}
 use lib.Signed.{le_z}
 use mir.Syntax.{w64}
 use mir.Val.{Fits, SFits, to_z, of_z}
-use Rattle.numbers.proofs.Signed.{X, given, ◌⊟◌, Within, fits, held, bounded}
+use Rattle.numbers.proofs.Signed.{given, ◌⊟◌, Within, fits, held, bounded}
 use Rattle.significand.specs.Width.{k64, t64, Significand}
 use Rattle.significand.specs.Steps.{index_of, factor_of, difference_of, sign_of, reduced_of}
 use Rattle.significand.proofs.Reduction.{index-least, least, most, reduced-small}

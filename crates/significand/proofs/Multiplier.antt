@@ -3,16 +3,17 @@
 use mathlib.Core.Path.{◌≡◌, refl, ap}
 use mathlib.Core.List.{[], ◌∷◌}
 use Prim.Native.Nat.{ℕ, ◌+◌, ◌*◌, ◌-◌, ◌^◌, ◌≤◌, ◌<◌}
-use native.Mathlib.Nat.{mul-le-mul, mul-le-mul_left, mul-le-mul_right, mul-pos, lt_of_le_of_lt}
+use native.Mathlib.Nat.{mul-le-mul, mul-le-mul_left, mul-le-mul_right, mul-pos}
 use native.Mathlib.Omega.{arith}
 use lib.Dec.{leb}
-use lib.Pow.{pow_pos, pow-lt}
+use lib.Pow.{pow_pos}
 use Rattle.kinds.specs.declared.Op.{Op}
 use Rattle.kinds.specs.declared.Op.TheVariants.{Reciprocal, Root, InverseRoot}
-use Rattle.numbers.specs.Nearest.{half_below, Nearest, Tie}
+use Rattle.numbers.specs.Nearest.{half_below, Nearest}
 use Rattle.numbers.proofs.Exponents.{power-of}
-use Rattle.numbers.proofs.Nearest.{no_tie, nearest-root, half-upto, nearest-within}
+use Rattle.numbers.proofs.Nearest.{nearest-root, half-upto, nearest-within}
 use Rattle.significand.specs.Steps.{factor_of, multiplier_of}
+use Rattle.significand.proofs.Untied.{root-untied, inverse-untied}
 use Rattle.significand.proofs.Scale.{parity-most, root-power, inverse-power, whole-square}
 use Rattle.significand.proofs.General.{Multiplies}
 use Rattle.significand.proofs.Reduction.{factor-least, factor-most}
@@ -37,17 +38,6 @@ module _ (k r p : ℕ) (h : 1 ≤ k) (e : p ≤ 1) (least : 2 ^ k ≤ r) (most :
 
   positive : 0 < r
   positive = omega (arith, least, pow_pos k)
-
-  -- NO TIE: an odd square times R is no power of two, and one times 2^(k + 1 + p) is no multiple of 2^(8k + 2)
-  pub root-untied : (w : ℕ) → Tie r root_n w → ⊥
-  root-untied =
-      no_tie (9 * k + 3 + p) 1 r root_n positive (lt_of_le_of_lt most (pow-lt (omega arith)))
-      (omega (arith, power-of (9 * k + 3 + p) (2 ∷ (9 * k + 1 + p) ∷ []) (omega arith)))
-
-  pub inverse-untied : (w : ℕ) → Tie inverse_d inverse_n w → ⊥
-  inverse-untied =
-      no_tie (8 * k + 2) r inverse_d inverse_n (pow_pos (k + 1 + p)) (pow-lt (omega arith))
-      (omega (arith, ap (λ (m : ℕ). r * m) (power-of (8 * k + 2) (2 ∷ 8 * k ∷ []) (omega arith))))
 
   -- 3 N has 4k + 2 bits, and its half below is above either exact M
   three : 3 * N < 2 ^ (4 * k + 2)
@@ -82,11 +72,11 @@ module _ (k r p : ℕ) (h : 1 ≤ k) (e : p ≤ 1) (least : 2 ^ k ≤ r) (most :
   -- NEAREST: no other whole number is as near to the exact M as M is
   pub root-nearest : Nearest r root_n (multiplier_of k Root r p)
   unfolding multiplier_of
-  root-nearest = nearest-root (4 * k + 2) r root_n (3 * N) root-some three root-large root-untied
+  root-nearest = nearest-root (4 * k + 2) r root_n (3 * N) root-some three root-large (root-untied k r p h e least most)
 
   pub inverse-root-nearest : Nearest inverse_d inverse_n (multiplier_of k InverseRoot r p)
   unfolding multiplier_of
-  inverse-root-nearest = nearest-root (4 * k + 2) inverse_d inverse_n (3 * N) inverse-some three inverse-large inverse-untied
+  inverse-root-nearest = nearest-root (4 * k + 2) inverse_d inverse_n (3 * N) inverse-some three inverse-large (inverse-untied k r p h e least most)
 
   -- UP TO M: the numbers whose half below is under the exact M
   pub root-upto : (w : ℕ) → half_below r (2 ^ (9 * k + 1 + p)) w ≡ leb w (multiplier_of k Root r p)

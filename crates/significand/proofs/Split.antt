@@ -14,7 +14,7 @@ use Rattle.kinds.specs.declared.Op.{Op}
 use Rattle.kinds.specs.declared.Op.TheVariants.{Reciprocal, Root, InverseRoot}
 use Rattle.numbers.proofs.Differences.{diff-eq, diff-abs, diff-sign, diff-times, pos-less, less-diff, more-diff}
 use Rattle.numbers.proofs.Exponents.{power-of}
-use Rattle.significand.specs.Steps.{index_of, difference_of, digit2, digit3, carry_of, unit, sum_over, sum_of, divisor_of, series_of}
+use Rattle.significand.specs.Steps.{index_of, difference_of, digit2, digit3, carry_of, unit, sum_of, divisor_of, series_of}
 use Rattle.significand.proofs.Sums.{times-unit, added, taken, difference, digits-below, sums}
 
 -- the first terms of a sum, in units of 2^k for the reciprocal and of 8 · 2^k for the roots

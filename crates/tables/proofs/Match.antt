@@ -6,8 +6,9 @@ use mathlib.Core.List.{List, [], ◌∷◌}
 use Prim.Native.Nat.{ℕ, suc, ◌+◌, ◌≤◌, ◌<◌}
 use native.Mathlib.Omega.{arith}
 use mir.Facts.{and_yes}
-use mir.Syntax.{Body, Arms, Rv, Opd, arm, default, no_default, skip, seq, assign, block, loop, cond, switch, exit, return, call}
-use mir.Syntax.{rv_opd, op2, op1, addr_of, aggregate, repeat, int, int_big, int_neg, copy, float, opd_true, opd_false, opd_unit, ptr_const}
+use mir.Syntax.{Body, Arms, Rv, Opd, arm, default, no_default, skip, seq, assign, block, loop, cond, switch, exit, return, call, unreachable, call_v, lend_static}
+use mir.Syntax.{rv_opd, op2, op1, addr_of, aggregate, repeat, repeat_p, select}
+use mir.Syntax.{int, int_big, int_neg, copy, float, opd_true, opd_false, opd_unit, ptr_const, size_of, align_of, num_of, fn_addr, vtable}
 use lib.Dec.{T}
 use lib.ListN.{length}
 use types.Run.{OneOf}
@@ -24,6 +25,11 @@ literal opd_true = 0
 literal opd_false = 0
 literal opd_unit = 0
 literal (ptr_const n) = 0
+literal (size_of t) = 0
+literal (align_of t) = 0
+literal (num_of t n) = 0
+literal (fn_addr f t) = 0
+literal (vtable f t) = 0
 
 -- the operands of an assignment and of an arm that is one
 abbrev parts : Rv → List Opd
@@ -33,6 +39,8 @@ parts (op1 f o) = []
 parts (addr_of p) = []
 parts (aggregate os) = os
 parts (repeat o n) = []
+parts (repeat_p o n) = []
+parts (select o p q) = []
 
 abbrev given : Body → List Opd
 given skip = []
@@ -45,6 +53,9 @@ given (switch o a) = []
 given (exit n) = []
 given return = []
 given (call f os p) = []
+given unreachable = []
+given (call_v f a os p) = []
+given (lend_static f a p) = []
 
 -- the entries, where `of` makes an arm's operands one
 abbrev entries : {A : Type 0} → (List Opd → A) → Arms → List A
@@ -64,6 +75,9 @@ table of (switch o a) = entries of a
 table of (exit n) = []
 table of return = []
 table of (call f os p) = []
+table of unreachable = []
+table of (call_v f a os p) = []
+table of (lend_static f a p) = []
 
 -- an entry that is one number
 abbrev pub number : List Opd → ℕ

@@ -9,10 +9,10 @@ use Rattle.roots.proofs.row.Tie as tie
 use Rattle.roots.proofs.row.Reads as reads
 use Rattle.roots.proofs.row.Lts as lts
 
-pub row-spec : {M : Type 1} → statement M
-row-spec =
+pub row_spec : {M : Type 1} → statement M
+row_spec =
     tie.close
-    (λ 𝓛 𝓣.
+    (λ 𝓤 𝓛 𝓣.
     t_fn_plain 𝓛 𝓣 0 lts.ps lts.r lts.xs lts.m lts.hs lts.body (λ κs qs bs. lts.Φ reads.Pre reads.Post)
     (λ κs qs bs bd. lts.typed reads.Pre reads.Post κs qs 𝓛 𝓣 bs bd) reads.Pre reads.Post
     (λ κs qs a good pre bs. row-looked-up Root root_test root-entry a.0 (table row lts.body) pre.0 pre.1 tt))
