@@ -10,7 +10,7 @@ use borrow.Author.Tests.{le-leb, lt-leb, lt-ltb, le-ltb}
 use lib.Dec.{ltb, eqb}
 use Rattle.kinds.specs.declared.Op.{Op}
 use Rattle.kinds.specs.declared.Mode.{Mode}
-use Rattle.kinds.specs.Rounding.{half, away}
+use Rattle.kinds.specs.Rounding.{away}
 use Rattle.kinds.specs.Guard.{place_of}
 use Rattle.kinds.proofs.Places.{off-lower, taken_is}
 use Rattle.kinds.specs.Flag.{overflow, underflow, inexact}

@@ -15,6 +15,7 @@ use Rattle.ieee.specs.Format.{Format, unit_of, infinity, magnitude_of}
 use Rattle.ieee.specs.Rounded.{rounded_of}
 use Rattle.ieee.proofs.Neighbours.{magnitude-normal}
 use Rattle.ieee.proofs.Nearest.{nearest-is}
+use Rattle.ieee.proofs.Squared as S
 
 -- The number is m × d, m from P to 2P − 1. Its square is rounded to l by the unit u, of which it has P at least: for any P, not only
 -- a power of two
@@ -44,23 +45,15 @@ power-kept i j C h low =
     let kept : 2 ^ (i - j) ≤ C = omega (arith, le_of_mul-le-mul_right {k = 2 ^ j} most (pow_pos j)) in
     omega (arith, mul-le-mul_right (2 ^ j) kept, whole)
 
--- The number with the significand m under the exponent c, and its square rounded to the significand C by dropping k digits: both in
--- units of 2^-u, so that the square is counted in units of 2^-2u
+-- of the number with the significand m under the exponent c, whose square is rounded to the significand C by dropping k digits
 module _ (f : Format) (c m k C : ℕ) where
-  abbrev pub square_of : ℕ
-  square_of = m * 2 ^ c * (m * 2 ^ c)
+  abbrev square_of : ℕ
+  square_of = S.square_of f c m k C
 
-  -- the unit by which the square is rounded
-  abbrev pub dropped : ℕ
-  dropped = 2 ^ k * 2 ^ unit_of f
+  abbrev dropped : ℕ
+  dropped = S.dropped f c m k C
 
-  -- C of these units are the square to the nearest, and it has as many of them as a significand at least
-  pub record Squared : Type 0 where
-    pub unit : 2 ^ f.fraction_bits * dropped ≤ square_of
-    pub low : 2 * square_of ≤ 2 * (C * dropped) + dropped
-    pub high : 2 * (C * dropped) ≤ 2 * square_of + dropped
-
-  module _ (least : 2 ^ f.fraction_bits ≤ m) (most : m < 2 ^ suc f.fraction_bits) (squared : Squared) where
+  module _ (least : 2 ^ f.fraction_bits ≤ m) (most : m < 2 ^ suc f.fraction_bits) (squared : S.Squared f c m k C) where
     abbrev p : ℕ
     p = f.fraction_bits
 

@@ -1,0 +1,6 @@
+-- `pattern::parts::fields` meets its contract: a mask of ones is a remainder. Assumes nothing.
+use Rattle.pattern.proofs.Assembly.{parts_are}
+use Rattle.pattern.proofs.parts.fields.Goals as goal
+
+pub returns : goal.returns
+returns c = search parts_are
