@@ -1,6 +1,6 @@
 -- REQUEST #104, of an accepted map: the lifted z meets the rule for each of the nine heights, no smaller number does, and where the old z
 -- does it is kept. Assumes nothing.
-use Prim.Native.Nat.{ℕ, ◌-◌, ◌<◌}
+use Prim.Native.Nat.{ℕ, ◌<◌}
 use mathlib.Core.Path.{◌≡◌, ap}
 use native.Mathlib.Omega.{arith}
 use mathlib.Core.List.{List}

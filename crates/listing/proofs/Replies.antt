@@ -10,7 +10,6 @@ use Rattle.words.specs.Splice.{splice}
 use Rattle.cutter.specs.List.{list_length, list_bytes}
 use Rattle.cutter.specs.Call.{map_refusal, list_refusal, buffer_after}
 use Rattle.cutter.proofs.Accepted.{map-asked, accepted-answer, accepted-buffer, refused-answer, refused-buffer}
-use Rattle.listing.specs.declared.Reply.{Reply}
 use Rattle.listing.specs.Reply.{reply_to}
 
 module _ (rounding : ℕ) (m out : List ℕ) (n : ℕ) (e : n ≡ list_refusal rounding m (length out)) where

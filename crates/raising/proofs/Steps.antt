@@ -11,7 +11,7 @@ use lib.IntN.{ℤ}
 use mir.Syntax.{w64}
 use mir.Val.{Fits}
 use Rattle.numbers.specs.Least.{LeastFrom, NotPast}
-use Rattle.numbers.proofs.Least.{Monotone, least-then, least-from, least-same}
+use Rattle.numbers.proofs.Least.{Monotone, least-then, least-same}
 use Rattle.numbers.proofs.Differences.{diff-more}
 use Rattle.numbers.proofs.Squares.{square-below}
 use Rattle.words.specs.Word.{word_at}
