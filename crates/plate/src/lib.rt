@@ -1,10 +1,10 @@
-// The plate unit. Every call that is open to users stands in this file and, for callers from C, in c.rt, and nowhere else. None asks
-// anything of its caller: an operand that a call cannot take gets the number of the first question that it fails. The calls have one
+// The plate unit. Every call that is open to users stands in this file and, for callers from C, in the crate `plate_c`, and nowhere else.
+// None asks anything of its caller: an operand that a call cannot take gets the number of the first question that it fails. The calls have one
 // shape: the questions first, on numbers as they come; then the work, an operation and a rounding being cases by then. They have it in
 // their layers, and here hand the reply on in the types that users name.
 #![tactic(auto)]
 
-mod c;
+pub mod c;
 
 ghost use Rattle.std.specs.Prelude.{◌≡◌, length};
 ghost use Rattle.kinds.specs.declared.Rule.TheVariants.{Touching, Lifted};

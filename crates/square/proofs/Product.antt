@@ -18,7 +18,8 @@ use Rattle.ieee.specs.Format.{binary32, infinity, magnitude_of}
 use Rattle.ieee.specs.Answer.{Answer, answer_of}
 use Rattle.ieee.proofs.Neighbours.{magnitude-normal, rising-back}
 use Rattle.ieee.proofs.Finite.{finite-answer}
-use Rattle.ieee.proofs.Squares.{Squared, square-below, root-of-square}
+use Rattle.ieee.proofs.Squared.{Squared}
+use Rattle.ieee.proofs.Squares.{square-below, root-of-square}
 use Rattle.square.proofs.Closest.{Near, closest-near, near-above, near-below}
 use Rattle.square.proofs.Patterns.{pattern-value, value-bits}
 

@@ -12,11 +12,11 @@ use plate::{Flag, Operation, Rounding, TABLES};
 
 // Each name has the number that the document gives its operation, rounding or flag.
 pub fn operations_named()
-    ensures* { do ⌜ ((← (⟦Operation::RECIPROCAL.0⟧).entry) ≡ 1) × ((← (⟦Operation::ROOT.0⟧).entry) ≡ 2) × ((← (⟦Operation::INVERSE_ROOT.0⟧).entry) ≡ 3) ⌝ }
+    ensures { (Operation.RECIPROCAL.0 ≡ 1) × (Operation.ROOT.0 ≡ 2) × (Operation.INVERSE_ROOT.0 ≡ 3) }
 {}
 
 pub fn roundings_named()
-    ensures* { do ⌜ ((← (⟦Rounding::NEAREST.0⟧).entry) ≡ 0) × ((← (⟦Rounding::UP.0⟧).entry) ≡ 1) × ((← (⟦Rounding::DOWN.0⟧).entry) ≡ 2) × ((← (⟦Rounding::TOWARD_ZERO.0⟧).entry) ≡ 3) ⌝ }
+    ensures { (Rounding.NEAREST.0 ≡ 0) × (Rounding.UP.0 ≡ 1) × (Rounding.DOWN.0 ≡ 2) × (Rounding.TOWARD_ZERO.0 ≡ 3) }
 {}
 
 // How many numbers the lent tables are.
@@ -25,6 +25,6 @@ pub fn tables_named()
 {}
 
 pub fn flags_named()
-    ensures* fact { do ⌜ ((← (⟦Flag::INVALID.0⟧).entry) ≡ invalid) × ((← (⟦Flag::DIVISION_BY_ZERO.0⟧).entry) ≡ division_by_zero) ⌝ }
-    ensures* fact_2 { do ⌜ ((← (⟦Flag::OVERFLOW.0⟧).entry) ≡ overflow) × ((← (⟦Flag::UNDERFLOW.0⟧).entry) ≡ underflow) × ((← (⟦Flag::INEXACT.0⟧).entry) ≡ inexact) ⌝ }
+    ensures fact { (Flag.INVALID.0 ≡ invalid) × (Flag.DIVISION_BY_ZERO.0 ≡ division_by_zero) }
+    ensures fact_2 { (Flag.OVERFLOW.0 ≡ overflow) × (Flag.UNDERFLOW.0 ≡ underflow) × (Flag.INEXACT.0 ≡ inexact) }
 {}
