@@ -7,11 +7,11 @@
 // numbers of the filled tables and a 0 behind them, in which the number at the place, if there is one, is the entry for this call.
 #![tactic(auto)]
 
-ghost use Rattle.std.specs.Prelude.{◌<◌, ◌≤◌, length};
+ghost use Rattle.std.specs.Prelude.{◌<◌, ◌≤◌, length, IfOk};
 
-use libc::{STDIN_FILENO, STDOUT_FILENO};
+use input::read_full;
 use lines::{behind, byte, long_at, number_at};
-use std::num::wrapping_add_u64;
+use std::io::Result;
 
 // The most bytes of text.
 const SIZE: usize = 1048576;
@@ -43,59 +43,72 @@ struct Rounded {
     next: usize,
 }
 
-fn main() {
+fn main(rt: HostRuntime) -> Result<()> {
     let mut text = [0u8; SIZE];
-    answer_input(&mut text);
+    answer_input(&rt, &mut text)
 }
 
 // By an array of known length, which the check need not count out.
-fn answer_input(text: &mut [u8; SIZE]) {
-    let n = io::read_full(STDIN_FILENO, text);
+fn answer_input(rt: &HostRuntime, text: &mut [u8; SIZE]) -> Result<()> {
+    let n = read_full(&mut rt.stdin(), text)?;
     let mut tables = [0u64; NUMBERS];
     let mut numbers = [0u64; NUMBERS];
-    answer_all(text, n, &mut tables, &mut numbers);
+    answer_all(rt, text, n, &mut tables, &mut numbers)
 }
 
 // Answers every line of the first n bytes. The tables are lent to the raw calls, and the numbers to the filling calls.
-fn answer_all(text: &[u8], n: usize, tables: &mut [u64], numbers: &mut [u64]) {
+fn answer_all(
+    rt: &impl Print,
+    text: &[u8],
+    n: usize,
+    tables: &mut [u64],
+    numbers: &mut [u64],
+) -> Result<()> {
     fill_first(tables, TABLES);
     let end = least(n, text.len());
     let mut at = 0;
     while at < end {
-        at = answer_line(text, at, tables, numbers);
+        at = answer_line(rt, text, at, tables, numbers)?;
     }
+    Ok(())
 }
 
 // Answers the line at a place, and gives the place of the next one.
-fn answer_line(text: &[u8], at: usize, tables: &mut [u64], numbers: &mut [u64]) -> usize
+fn answer_line(
+    rt: &impl Print,
+    text: &[u8],
+    at: usize,
+    tables: &mut [u64],
+    numbers: &mut [u64],
+) -> Result<usize>
     requires { at < length text.now }
-    ensures { (at < result) × (result ≤ length text.now) }
+    ensures { IfOk result (λ next. (at < next) × (next ≤ length text.now)) }
 {
     let operands = behind(text, at + 1);
     if text[at] == b't' {
-        return fill(text, operands, numbers);
+        return fill(rt, text, operands, numbers);
     }
     if text[at] == b'r' {
-        return raw64(text, operands, tables);
+        return raw64(rt, text, operands, tables);
     }
-    binary64(text, operands, tables)
+    binary64(rt, text, operands, tables)
 }
 
 // Calls on the operands at a place, and gives the place behind them.
-fn fill(text: &[u8], at: usize, numbers: &mut [u64]) -> usize
+fn fill(rt: &impl Print, text: &[u8], at: usize, numbers: &mut [u64]) -> Result<usize>
     requires { at ≤ length text.now }
-    ensures { (at ≤ result) × (result ≤ length text.now) }
+    ensures { IfOk result (λ next. (at ≤ next) × (next ≤ length text.now)) }
 {
     let length = number_at(text, at, 10);
     put_sevens(numbers);
     let refusal = fill_first(numbers, length.value as usize);
-    show_filled(refusal, digest(numbers));
-    length.next
+    show_filled(rt, refusal, digest(numbers))?;
+    Ok(length.next)
 }
 
-fn raw64(text: &[u8], at: usize, tables: &mut [u64]) -> usize
+fn raw64(rt: &impl Print, text: &[u8], at: usize, tables: &mut [u64]) -> Result<usize>
     requires { at ≤ length text.now }
-    ensures { (at ≤ result) × (result ≤ length text.now) }
+    ensures { IfOk result (λ next. (at ≤ next) × (next ≤ length text.now)) }
 {
     let lent = lent_at(text, at);
     let operation = number_at(text, lent.next, 10);
@@ -103,33 +116,35 @@ fn raw64(text: &[u8], at: usize, tables: &mut [u64]) -> usize
     let parity = number_at(text, significand.next, 10);
     let held = exchange(tables, lent.place, lent.entry);
     let length = least(lent.length, tables.len());
-    show_raw64(plate::raw64(
+    let reply = plate::raw64(
         plate::Operation(byte(operation.value)),
         significand.value,
         byte(parity.value),
         &tables[..length],
-    ));
+    );
     exchange(tables, lent.place, held);
-    parity.next
+    show_raw64(rt, reply)?;
+    Ok(parity.next)
 }
 
-fn binary64(text: &[u8], at: usize, tables: &mut [u64]) -> usize
+fn binary64(rt: &impl Print, text: &[u8], at: usize, tables: &mut [u64]) -> Result<usize>
     requires { at ≤ length text.now }
-    ensures { (at ≤ result) × (result ≤ length text.now) }
+    ensures { IfOk result (λ next. (at ≤ next) × (next ≤ length text.now)) }
 {
     let lent = lent_at(text, at);
     let call = rounded_at(text, lent.next);
     let held = exchange(tables, lent.place, lent.entry);
     let length = least(lent.length, tables.len());
-    show_binary64(plate::binary64(
+    let reply = plate::binary64(
         plate::Operation(call.operation),
         plate::Rounding(call.rounding),
         call.bits,
         plate::Status { flags: call.status },
         &tables[..length],
-    ));
+    );
     exchange(tables, lent.place, held);
-    call.next
+    show_binary64(rt, reply)?;
+    Ok(call.next)
 }
 
 fn rounded_at(text: &[u8], at: usize) -> Rounded
@@ -188,52 +203,41 @@ fn exchange(numbers: &mut [u64], place: usize, number: u64) -> u64 {
 
 // Puts 7j + 3 at each place j.
 fn put_sevens(numbers: &mut [u64]) {
-    let mut number = 3;
-    let mut j = 0;
-    while j < numbers.len() {
+    let mut number = 3u64;
+    for j in 0..numbers.len() {
         numbers[j] = number;
-        number = wrapping_add_u64(number, 7);
-        j += 1;
+        number = number.wrapping_add(7);
     }
 }
 
 // A number that tells slices apart; it starts at 1.
 fn digest(numbers: &[u64]) -> u64 {
     let mut sum = 1;
-    let mut j = 0;
-    while j < numbers.len() {
-        sum = (257 * sum + numbers[j] % PRIME + 1) % PRIME;
-        j += 1;
+    for number in numbers {
+        sum = (257 * sum + number % PRIME + 1) % PRIME;
     }
     sum
 }
 
 // Write a reply as a line.
-fn show_filled(refusal: u8, digest: u64) {
-    io::print_decimal(STDOUT_FILENO, refusal as u64);
-    io::write_all(STDOUT_FILENO, b" ");
-    io::print_decimal(STDOUT_FILENO, digest);
-    io::write_all(STDOUT_FILENO, b"\n");
+fn show_filled(rt: &impl Print, refusal: u8, digest: u64) -> Result<()> {
+    println!(rt; "{refusal} {digest}")
 }
 
-fn show_raw64(r: plate::Raw64Reply) {
-    io::print_decimal(STDOUT_FILENO, r.refusal as u64);
-    io::write_all(STDOUT_FILENO, b" ");
-    show_long(r.answer);
-    io::write_all(STDOUT_FILENO, b"\n");
+fn show_raw64(rt: &impl Print, r: plate::Raw64Reply) -> Result<()> {
+    print!(rt; "{} ", r.refusal)?;
+    show_long(rt, r.answer)?;
+    println!(rt)
 }
 
-fn show_binary64(r: plate::Binary64Reply) {
-    io::print_decimal(STDOUT_FILENO, r.refusal as u64);
-    io::write_all(STDOUT_FILENO, b" ");
-    show_long(r.bits);
-    io::write_all(STDOUT_FILENO, b" ");
-    io::print_decimal(STDOUT_FILENO, r.status.flags as u64);
-    io::write_all(STDOUT_FILENO, b"\n");
+fn show_binary64(rt: &impl Print, r: plate::Binary64Reply) -> Result<()> {
+    print!(rt; "{} ", r.refusal)?;
+    show_long(rt, r.bits)?;
+    println!(rt; " {}", r.status.flags)
 }
 
 // Sixteen hexadecimal digits.
-fn show_long(x: u64) {
-    io::write_all(STDOUT_FILENO, &lines::hex((x / 4294967296) as u32));
-    io::write_all(STDOUT_FILENO, &lines::hex((x % 4294967296) as u32));
+fn show_long(rt: &impl Print, x: u64) -> Result<()> {
+    rt.write_all(&lines::hex((x / 4294967296) as u32))?;
+    rt.write_all(&lines::hex((x % 4294967296) as u32))
 }
