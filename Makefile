@@ -10,7 +10,10 @@ CC ?= cc
 # the version stands in the header; rust/Cargo.toml and CHANGELOG.md name it too, and a test compares them
 version := $(shell sed -n 's/^\#define PLATE_VERSION "\(.*\)"/\1/p' include/plate.h)
 soname := libplate.so.$(firstword $(subst ., ,$(version)))
-proved := crates.txt $(shell find crates -name '*.rt' -o -name '*.antt')
+# what a proof reads; out/ is what rt made of it
+proved := crates.txt $(shell find crates -name out -prune -o \( -name '*.rt' -o -name '*.antt' \) -print)
+archive := crates/plate_c/out/libplate_c.a
+program := crates/platelist/out/platelist
 modules := $(patsubst command/%,build/share/plate/%,$(wildcard command/shop/*.py command/shop/commands/*.py))
 files := build/lib/libplate.a build/lib/libplate.so.$(version) build/lib/pkgconfig/plate.pc build/include/plate.h \
     build/bin/platelist build/bin/plate build/share/plate/shop/version.py $(modules) \
@@ -19,16 +22,24 @@ to = $(DESTDIR)$(PREFIX)
 
 all: $(files)
 
-build/lib/libplate.a: $(proved)
+# rt leaves what has not changed as old as it was
+$(archive): $(proved)
 	@tools/kit
-	@echo 'proving the library: three to five minutes from nothing, else seconds' >&2
-	rt staticlib plate
-	install -D -m 644 target/staticlib/libplate.a $@
+	@echo 'proving the library: many minutes from nothing, else seconds' >&2
+	cd crates/plate_c && rt lib
+	@touch $@
 
 # after the library, for two runs of rt would prove the same crates twice
-build/bin/platelist: $(proved) | build/lib/libplate.a
-	rt check platelist
-	install -D -m 755 target/bin/platelist $@
+$(program): $(proved) | $(archive)
+	@tools/kit
+	cd crates/platelist && rt run < /dev/null > /dev/null
+	@touch $@
+
+build/lib/libplate.a: $(archive)
+	install -D -m 644 $< $@
+
+build/bin/platelist: $(program)
+	install -D -m 755 $< $@
 
 build/lib/libplate.so.$(version): build/lib/libplate.a
 	$(CC) -shared -Wl,-soname,$(soname) -Wl,--whole-archive $< -Wl,--no-whole-archive -o $@

@@ -1,7 +1,7 @@
 #!/usr/bin/env python3
-"""Runs target/bin/platelist on many maps and compares what it prints, the lifted list rounded to nearest, with the reference.
+"""Runs build/bin/platelist on many maps and compares what it prints, the lifted list rounded to nearest, with the reference.
 
-usage: test_platelist.py      after `rt check platelist`
+usage: test_platelist.py      after `make`
 
 The maps are the frames of crates/list_vectors/stdin, whatever their fate, and inputs around the longest map's length. Then what the
 proof says nothing of: input that comes in pieces, the text written at once, and input or output that fails.
@@ -13,7 +13,7 @@ import subprocess
 import sys
 
 ROOT = pathlib.Path(__file__).resolve().parent.parent
-PROGRAM = ROOT / 'target' / 'bin' / 'platelist'
+PROGRAM = ROOT / 'build' / 'bin' / 'platelist'
 sys.path.insert(0, str(ROOT / 'tests' / 'reference'))
 import plate  # noqa: E402
 from frames import frames  # noqa: E402
@@ -38,9 +38,9 @@ def writes(given):
 
 
 def failed(stdin, stdout):
-    """What the program prints where its input or its output fails, and what it says on standard error."""
-    run = subprocess.run([PROGRAM], stdin=stdin, stdout=stdout, stderr=subprocess.PIPE, check=True)
-    return run.stdout, run.stderr
+    """What the program prints where its input or its output fails, what it says on standard error, and its exit status."""
+    run = subprocess.run([PROGRAM], stdin=stdin, stdout=stdout, stderr=subprocess.PIPE)
+    return run.stdout, run.stderr, run.returncode
 
 
 def main():
@@ -59,10 +59,10 @@ def main():
         if writes(given) != [plate.platelist(given)]:
             wrong.append(f'{len(given)} bytes: the text is not written at once')
     with open('/dev/full', 'wb') as full, open(ROOT / 'samples' / 'example.plt', 'rb') as sample:
-        if failed(sample, full) != (None, b'platelist: standard output: No space left on device\n'):
+        if failed(sample, full) != (None, b'platelist: standard output: No space left on device (os error 28)\n', 1):
             wrong.append('a full device')
     folder = os.open(ROOT, os.O_RDONLY)
-    if failed(folder, subprocess.PIPE) != (b'', b'platelist: standard input: Is a directory\n'):
+    if failed(folder, subprocess.PIPE) != (b'', b'platelist: standard input: Is a directory (os error 21)\n', 1):
         wrong.append('a folder as input')
     os.close(folder)
     for line in wrong:

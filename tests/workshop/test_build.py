@@ -106,15 +106,15 @@ class Run(unittest.TestCase):
         self.assertIn('tests/reference/plate.py', run.stderr)
 
     def test_proof_fails(self):
-        run = self.run_with('if [ "$1" = version ]; then echo rattle-kit-5; else echo this is not proved; exit 1; fi')
+        run = self.run_with('if [ "$1" = version ]; then echo rattle-kit-13; else echo this is not proved; exit 1; fi')
         self.assertEqual((run.returncode, run.stdout), (1, ''))
-        self.assertIn('with rattle-kit-5;', run.stderr)
+        self.assertIn('with rattle-kit-13;', run.stderr)
         self.assertIn('this is not proved\nrun: the proof failed', run.stderr)
 
     def test_another_kit(self):
-        run = self.run_with('[ "$1" = version ] && echo rattle-kit-4')
+        run = self.run_with('[ "$1" = version ] && echo rattle-kit-12')
         self.assertEqual(run.returncode, 1)
-        self.assertIn('The proofs were made with rattle-kit-5; this is rattle-kit-4', run.stderr)
+        self.assertIn('The proofs were made with rattle-kit-13; this is rattle-kit-12', run.stderr)
 
 
 class Sample(unittest.TestCase):
