@@ -45,7 +45,7 @@ power-kept i j C h low =
     let kept : 2 ^ (i - j) ≤ C = omega (arith, le_of_mul-le-mul_right {k = 2 ^ j} most (pow_pos j)) in
     omega (arith, mul-le-mul_right (2 ^ j) kept, whole)
 
--- of the number with the significand m under the exponent c, whose square is rounded to the significand C by dropping k digits
+-- The number has the significand m under the exponent c, and its square is rounded to the significand C by dropping k digits
 module _ (f : Format) (c m k C : ℕ) where
   abbrev square_of : ℕ
   square_of = S.square_of f c m k C

@@ -1,5 +1,4 @@
--- Step 4: the M of both roots is nearest to the exact M, no tie occurs, and so M is within one unit; the test that a number is at most M.
--- Assumes nothing.
+-- Step 4: the M of both roots is nearest to the exact M, and so within one unit of it; the test that a number is at most M. Assumes nothing.
 use mathlib.Core.Path.{◌≡◌, refl, ap}
 use mathlib.Core.List.{[], ◌∷◌}
 use Prim.Native.Nat.{ℕ, ◌+◌, ◌*◌, ◌-◌, ◌^◌, ◌≤◌, ◌<◌}
