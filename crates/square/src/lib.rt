@@ -10,7 +10,7 @@ use plate::{Operation, Rounding, Status};
 // The nearest root of the product of the width with itself, whatever the status; a NaN is given back as it came.
 pub fn square_then_root(width: f32, status: Status) -> f32
     ensures value { result ≡ root_of_square width }
-    ensures value_2 { T (is_width width) → result ≡ width }
+    ensures comes_back { T (is_width width) → result ≡ width }
 {
     if width != width {
         return width;

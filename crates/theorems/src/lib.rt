@@ -25,6 +25,6 @@ pub fn tables_named()
 {}
 
 pub fn flags_named()
-    ensures fact { (Flag.INVALID.0 ≡ invalid) × (Flag.DIVISION_BY_ZERO.0 ≡ division_by_zero) }
-    ensures fact_2 { (Flag.OVERFLOW.0 ≡ overflow) × (Flag.UNDERFLOW.0 ≡ underflow) × (Flag.INEXACT.0 ≡ inexact) }
+    ensures operand_flags { (Flag.INVALID.0 ≡ invalid) × (Flag.DIVISION_BY_ZERO.0 ≡ division_by_zero) }
+    ensures rounding_flags { (Flag.OVERFLOW.0 ≡ overflow) × (Flag.UNDERFLOW.0 ≡ underflow) × (Flag.INEXACT.0 ≡ inexact) }
 {}

@@ -17,5 +17,5 @@ float_from_bits-result c = search root-asked
 pub returns-clause-value : goal.returns-clause-value
 returns-clause-value c = (root-returned _ _ _ c.binary32-reply.ensures (subst T (sym c.well_formed.0.1) tt)).0
 
-pub returns-clause-value_2 : goal.returns-clause-value_2
-returns-clause-value_2 c = (root-returned _ _ _ c.binary32-reply.ensures (subst T (sym c.well_formed.0.1) tt)).1
+pub returns-clause-comes_back : goal.returns-clause-comes_back
+returns-clause-comes_back c = (root-returned _ _ _ c.binary32-reply.ensures (subst T (sym c.well_formed.0.1) tt)).1
