@@ -24,6 +24,6 @@ loop-filled-preserved g c =
     let n = c.in_ok-more.more in
     let room = length c.loop-filled.bytes - from in
     let within = c.loop-filled.invariant.0 in
-    let part = slice_range-put_mid from room n c.loop-filled.bytes c.read.new.buf within c.in_ok-more.ensures.bound.0 in
-    let joined = take_split from (from + n) c.loop-filled.bytes (put_mid from room c.loop-filled.bytes c.read.new.buf) (omega arith) (take-put_mid_below _ _ _ _ _ (le_refl _) within) in
-    (search rules, subst (Consumes _ _) (ap (λ l. take from c.loop-filled.bytes ++ l) (sym part) ∙ joined) (Consumes-trans _ _ _ _ _ c.loop-filled.invariant.1 c.in_ok-more.ensures.bytes.0))
+    let part = slice_range-put_mid from room n c.loop-filled.bytes c.read_again.new.bytes within c.in_ok-more.ensures.bound.0 in
+    let joined = take_split from (from + n) c.loop-filled.bytes (put_mid from room c.loop-filled.bytes c.read_again.new.bytes) (omega arith) (take-put_mid_below _ _ _ _ _ (le_refl _) within) in
+    (search rules, subst (Consumes _ _) (ap (λ l. take from c.loop-filled.bytes ++ l) (sym part) ∙ joined) (Consumes-trans _ _ _ _ _ c.loop-filled.invariant.1 c.in_ok-more.ensures.front))
