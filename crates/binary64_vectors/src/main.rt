@@ -7,7 +7,7 @@
 // numbers of the filled tables and a 0 behind them, in which the number at the place, if there is one, is the entry for this call.
 #![tactic(auto)]
 
-ghost use Rattle.std.specs.Prelude.{◌<◌, ◌≤◌, length, IfOk};
+ghost use Rattle.std.specs.Prelude.{◌≡◌, ◌<◌, ◌≤◌, length, IfOk, slice_index, slice_set};
 
 use input::read_full;
 use lines::{behind, byte, long_at, number_at};
@@ -73,7 +73,7 @@ fn answer_all(
     Ok(())
 }
 
-// Answers the line at a place, and gives the place of the next one.
+// Answers the line at a place, and gives the place of the next one. Whatever comes of it, the tables are then what they were.
 fn answer_line(
     rt: &impl Print,
     text: &[u8],
@@ -82,7 +82,8 @@ fn answer_line(
     numbers: &mut [u64],
 ) -> Result<usize>
     requires { at < length text.now }
-    ensures { IfOk result (λ next. (at < next) × (next ≤ length text.now)) }
+    ensures next { IfOk result (λ next. (at < next) × (next ≤ length text.now)) }
+    ensures tables { tables.new ≡ tables.old }
 {
     let operands = behind(text, at + 1);
     if text[at] == b't' {
@@ -108,7 +109,8 @@ fn fill(rt: &impl Print, text: &[u8], at: usize, numbers: &mut [u64]) -> Result<
 
 fn raw64(rt: &impl Print, text: &[u8], at: usize, tables: &mut [u64]) -> Result<usize>
     requires { at ≤ length text.now }
-    ensures { IfOk result (λ next. (at ≤ next) × (next ≤ length text.now)) }
+    ensures next { IfOk result (λ next. (at ≤ next) × (next ≤ length text.now)) }
+    ensures tables { tables.new ≡ tables.old }
 {
     let lent = lent_at(text, at);
     let operation = number_at(text, lent.next, 10);
@@ -129,7 +131,8 @@ fn raw64(rt: &impl Print, text: &[u8], at: usize, tables: &mut [u64]) -> Result<
 
 fn binary64(rt: &impl Print, text: &[u8], at: usize, tables: &mut [u64]) -> Result<usize>
     requires { at ≤ length text.now }
-    ensures { IfOk result (λ next. (at ≤ next) × (next ≤ length text.now)) }
+    ensures next { IfOk result (λ next. (at ≤ next) × (next ≤ length text.now)) }
+    ensures tables { tables.new ≡ tables.old }
 {
     let lent = lent_at(text, at);
     let call = rounded_at(text, lent.next);
@@ -192,7 +195,10 @@ fn least(a: usize, b: usize) -> usize
 }
 
 // Puts a number at a place, and gives what stood there; a place behind the end changes nothing.
-fn exchange(numbers: &mut [u64], place: usize, number: u64) -> u64 {
+fn exchange(numbers: &mut [u64], place: usize, number: u64) -> u64
+    ensures held { result ≡ slice_index numbers.old place }
+    ensures put { numbers.new ≡ slice_set numbers.old place number }
+{
     if numbers.len() <= place {
         return 0;
     }
