@@ -59,10 +59,10 @@ def main():
         if writes(given) != [plate.platelist(given)]:
             wrong.append(f'{len(given)} bytes: the text is not written at once')
     with open('/dev/full', 'wb') as full, open(ROOT / 'samples' / 'example.plt', 'rb') as sample:
-        if failed(sample, full) != (None, b'platelist: standard output: No space left on device (os error 28)\n', 1):
+        if failed(sample, full) != (None, b'platelist: standard output: No space left on device\n', 1):
             wrong.append('a full device')
     folder = os.open(ROOT, os.O_RDONLY)
-    if failed(folder, subprocess.PIPE) != (b'', b'platelist: standard input: Is a directory (os error 21)\n', 1):
+    if failed(folder, subprocess.PIPE) != (b'', b'platelist: standard input: Is a directory\n', 1):
         wrong.append('a folder as input')
     os.close(folder)
     for line in wrong:

@@ -1,13 +1,13 @@
 // Reads a map from standard input and prints its list, rounding nearest.
 #![tactic(auto)]
 
-ghost use Rattle.std.specs.Prelude.{◌<◌, length, take, IfOk, OnOk};
-ghost use Rattle.std.specs.Io.{ReadsAtMost};
-ghost use Rattle.std.specs.Io.KnownBytes.{Consumes, Appends, IsAtEnd};
+ghost use Rattle.std.specs.Prelude.{ℕ, ◌<◌, ◌≤◌, length, take, IfOk, OnOk, OnErr};
+ghost use Rattle.std.specs.Io.{ReadsAtMost, WritesAtMost};
+ghost use Rattle.std.specs.Io.KnownBytes.{Keeps, Consumes, Appends, IsAtEnd};
 ghost use Rattle.text.specs.Text.{platelist_text};
 
 use input::read_full;
-use std::io::{Error, Read, Result, Write, writer};
+use std::io::{Error, ErrorKind, Read, Result, Write, writer};
 use std::process::ExitCode;
 use text::put_text;
 
@@ -29,23 +29,73 @@ fn read_input<R: Read>(input: &mut R, bytes: &mut [u8]) -> Result<usize>
     ensures bound { ReadsAtMost result bytes.new }
     ensures front { IfOk result (λ n. Consumes (R.remaining input.old) (R.remaining input.new) (take n bytes.new)) }
     ensures end { IfOk result (λ n. n < length bytes.new → IsAtEnd (R.remaining input.new)) }
+    ensures err { OnErr result ((n : ℕ) × (n ≤ length bytes.new) × Consumes (R.remaining input.old) (R.remaining input.new) (take n bytes.new)) }
 {
     read_full(input, bytes)
 }
 
-// Writes the text for these bytes at once.
+// Writes the text for these bytes at once. If a write fails, its error is the answer, and what is written is the front of the text.
 fn print<W: Write>(out: &mut W, map: &[u8]) -> Result<()>
-    ensures { OnOk result (Appends (W.contents out.old) (W.contents out.new) (platelist_text map.now)) }
+    ensures ok { OnOk result (Appends (W.contents out.old) (W.contents out.new) (platelist_text map.now)) }
+    ensures err { OnErr result ((n : ℕ) × Appends (W.contents out.old) (W.contents out.new) (take n (platelist_text map.now))) }
 {
     // The longest list, 12 × 62 × 62 + 18.
     let mut list = [0u8; 46146];
     let mut text = [0u8; 230688];
     let end = put_text(map, &mut list, &mut text);
-    out.write_all(&text[..end])
+    write_full(out, &text[..end])
+}
+
+// Writes all the bytes, at once unless the system takes fewer.
+fn write_full<W: Write>(out: &mut W, bytes: &[u8]) -> Result<()>
+    ensures ok { OnOk result (Appends (W.contents out.old) (W.contents out.new) bytes.now) }
+    ensures err { OnErr result ((n : ℕ) × Appends (W.contents out.old) (W.contents out.new) (take n bytes.now)) }
+{
+    let mut written = 0;
+    while written < bytes.len() {
+        let more = write_again(out, &bytes[written..])?;
+        if more == 0 {
+            return Err(Error::from(ErrorKind::WriteZero));
+        }
+        written += more;
+    }
+    Ok(())
+}
+
+// One write. It is tried again while a signal interrupts it.
+fn write_again<W: Write>(out: &mut W, bytes: &[u8]) -> Result<usize>
+    ensures bound { WritesAtMost result bytes.now }
+    ensures some { IfOk result (λ n. Appends (W.contents out.old) (W.contents out.new) (take n bytes.now)) }
+    ensures none { OnErr result (Keeps (W.contents out.old) (W.contents out.new)) }
+{
+    for _ in 0..u64::MAX {
+        match out.write(bytes) {
+            Ok(n) => return Ok(n),
+            Err(error) => {
+                if error.kind() != ErrorKind::Interrupted {
+                    return Err(error);
+                }
+            }
+        }
+    }
+    out.write(bytes)
 }
 
 // Says on standard error which stream failed and why.
-fn failed(rt: &impl Eprint, stream: &str, error: &Error) -> ExitCode {
-    let _ = eprintln!(rt; "platelist: {stream}: {error}");
+fn failed(rt: &HostRuntime, stream: &str, error: &Error) -> ExitCode {
+    let _ = say(rt, stream, error);
     ExitCode::FAILURE
+}
+
+fn say(rt: &HostRuntime, stream: &str, error: &Error) -> Result<()> {
+    let text = format!(in rt.alloc(); "{error}")?;
+    eprintln!(rt; "platelist: {stream}: {}", without_number(&text))
+}
+
+// The system's words alone: the text of an error has the system's number behind them.
+fn without_number(text: &str) -> &str {
+    match text.split_once(" (os error ") {
+        Some((words, _)) => words,
+        None => text,
+    }
 }
