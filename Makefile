@@ -25,7 +25,7 @@ all: $(files)
 # rt leaves what has not changed as old as it was
 $(archive): $(proved)
 	@tools/kit
-	@echo 'proving the library: about ten minutes from nothing, else seconds' >&2
+	@echo 'proving the library: about eleven minutes from nothing, else seconds' >&2
 	cd crates/plate_c && rt lib
 	@touch $@
 
