@@ -24,13 +24,17 @@ fn main(rt: HostRuntime) -> ExitCode {
     }
 }
 
-// Reads until the buffer is full or the input ends.
+// Reads until the buffer is full or the input ends. If the end comes before any text, it is asked for once more, because a terminal can go on.
 fn read_input<R: Read>(input: &mut R, bytes: &mut [u8]) -> Result<usize>
     ensures bound { ReadsAtMost result bytes.new }
     ensures front { IfOk result (λ n. Consumes (R.remaining input.old) (R.remaining input.new) (take n bytes.new)) }
     ensures end { IfOk result (λ n. n < length bytes.new → IsAtEnd (R.remaining input.new)) }
     ensures err { OnErr result ((n : ℕ) × (n ≤ length bytes.new) × Consumes (R.remaining input.old) (R.remaining input.new) (take n bytes.new)) }
 {
+    let length = read_full(input, bytes)?;
+    if length > 0 {
+        return Ok(length);
+    }
     read_full(input, bytes)
 }
 
