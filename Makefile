@@ -41,10 +41,11 @@ build/lib/libplate.a: $(archive)
 build/bin/platelist: $(program)
 	install -D -m 755 $< $@
 
+# more names of the file and no symbolic links, because rt ci refuses those anywhere in the repository
 build/lib/libplate.so.$(version): build/lib/libplate.a
 	$(CC) -shared -Wl,-soname,$(soname) -Wl,--whole-archive $< -Wl,--no-whole-archive -o $@
-	ln -sf libplate.so.$(version) build/lib/$(soname)
-	ln -sf $(soname) build/lib/libplate.so
+	ln -f $@ build/lib/$(soname)
+	ln -f $@ build/lib/libplate.so
 
 build/include/plate.h: include/plate.h
 	install -D -m 644 $< $@
