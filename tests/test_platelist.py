@@ -38,7 +38,7 @@ def writes(given):
 
 
 def failed(stdin, stdout):
-    """What the program prints where its input or its output fails, what it says on standard error, and its exit status."""
+    """What the program prints if its input or its output fails, what it says on standard error, and its exit status."""
     run = subprocess.run([PROGRAM], stdin=stdin, stdout=stdout, stderr=subprocess.PIPE)
     return run.stdout, run.stderr, run.returncode
 

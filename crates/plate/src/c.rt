@@ -1,4 +1,4 @@
-// What calls for C give back where one number has no room for it. The calls are those of the crate `plate_c`.
+// What calls for C give back if one number has no room for it. The calls are those of the crate `plate_c`.
 
 // The binary64 call's reply for C, whose answer leaves no room in one number.
 #[repr(C)]
