@@ -4,3 +4,4 @@ pub mod Questions
 pub mod Places
 pub mod Ties
 pub mod Halves
+pub mod Refusals

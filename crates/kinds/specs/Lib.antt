@@ -3,3 +3,4 @@ pub mod Rounding
 pub mod Guard
 pub mod Flag
 pub mod Question
+pub mod Refusal

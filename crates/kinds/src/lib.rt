@@ -5,14 +5,60 @@ ghost use Rattle.std.specs.Int.Bits.{bit_or};
 ghost use Rattle.std.specs.Prelude.{◌%◌, ◌≡◌};
 ghost use Rattle.kinds.specs.Operation.{is_operation, op_of, is_reciprocal};
 ghost use Rattle.kinds.specs.Rounding.{is_rounding, mode_of, number_of, away};
+ghost use Rattle.kinds.specs.Refusal.{number_of as refusal_number, operation_asked, rounding_asked};
 ghost use Rattle.kinds.specs.Question.{ask as question_ask};
 ghost use Rattle.kinds.specs.Guard.{place_of};
 
-#[derive(Clone, Copy)]
+// Why a call is refused: the first of its questions that is answered "no", by the question's number.
+#[derive(Clone, Copy, Debug, PartialEq, Eq)]
+pub enum Refusal {
+    Operation = 1,
+    Rounding = 2,
+    Significand = 3,
+    Parity = 4,
+    Short = 5,
+    MapLetters = 6,
+    Sides = 7,
+    Lengths = 8,
+    MapDistance = 9,
+    Height = 10,
+    Room = 11,
+    ListLetters = 12,
+    ListDistance = 13,
+    Index = 14,
+    Tables = 15,
+    Entry = 16,
+}
+
+impl Refusal {
+    pub fn number(self) -> u8
+        ensures { result ≡ refusal_number self }
+    {
+        self as u8
+    }
+}
+
+#[derive(Clone, Copy, Debug, PartialEq, Eq)]
 pub enum Op {
     Reciprocal,
     Root,
     InverseRoot,
+}
+
+// Question 1, and the operation with this number.
+impl TryFrom<u8> for Op {
+    type Error = Refusal;
+
+    ghost try_from_gives = { λ n r. r ≡ operation_asked n };
+
+    fn try_from(number: u8) -> Result<Op, Refusal> {
+        match number {
+            1 => Ok(Op::Reciprocal),
+            2 => Ok(Op::Root),
+            3 => Ok(Op::InverseRoot),
+            _ => Err(Refusal::Operation),
+        }
+    }
 }
 
 impl Op {
@@ -47,18 +93,35 @@ impl Op {
 
 // The rule that the centres of a list follow: the ball touches the surface at its point (document 01), or is lifted off the heights round
 // it (document 02, #104).
-#[derive(Clone, Copy)]
+#[derive(Clone, Copy, Debug, PartialEq, Eq)]
 pub enum Rule {
     Touching,
     Lifted,
 }
 
-#[derive(Clone, Copy)]
+#[derive(Clone, Copy, Debug, PartialEq, Eq)]
 pub enum Mode {
-    Nearest,
-    Up,
-    Down,
-    TowardZero,
+    Nearest = 0,
+    Up = 1,
+    Down = 2,
+    TowardZero = 3,
+}
+
+// Question 2, and the rounding with this number.
+impl TryFrom<u8> for Mode {
+    type Error = Refusal;
+
+    ghost try_from_gives = { λ n r. r ≡ rounding_asked n };
+
+    fn try_from(number: u8) -> Result<Mode, Refusal> {
+        match number {
+            0 => Ok(Mode::Nearest),
+            1 => Ok(Mode::Up),
+            2 => Ok(Mode::Down),
+            3 => Ok(Mode::TowardZero),
+            _ => Err(Refusal::Rounding),
+        }
+    }
 }
 
 impl Mode {
@@ -85,12 +148,7 @@ impl Mode {
     pub fn number(self) -> u8
         ensures { result ≡ number_of self }
     {
-        match self {
-            Mode::Nearest => 0,
-            Mode::Up => 1,
-            Mode::Down => 2,
-            Mode::TowardZero => 3,
-        }
+        self as u8
     }
 }
 
