@@ -9,14 +9,16 @@ use borrow.Author.Tests.{not-true, not-false, le-leb, leb-true, eqb-true, eq-eqb
 use lib.Dec.{leb, eqb, lit<}
 use lib.ListN.{length}
 use lib.IntN.{nat_abs}
+use Rattle.kinds.specs.Refusal.{number_of, refusal_of}
 use Rattle.kinds.specs.Rounding.{is_rounding, mode_of}
 use Rattle.kinds.specs.declared.Rule.{Rule}
+use Rattle.kinds.proofs.Refusals.{refusal-then, refusal-asked}
 use Rattle.kinds.proofs.Questions.{later, yes, sure, both-are, ask-yes, ask-no, ask-most, then-later, then-none}
 use Rattle.words.specs.Word.{word_at}
 use Rattle.words.specs.Signed.{signed}
 use Rattle.words.specs.Splice.{splice}
 use Rattle.words.proofs.Differences.{either}
-use Rattle.trailer.specs.Kinds.{length_of, new_list}
+use Rattle.trailer.specs.Kinds.{letters_refusal, length_of, new_list}
 use Rattle.trailer.specs.Bytes.{last_fields, ends_in}
 use Rattle.trailer.proofs.Readings.{ends-fit}
 use Rattle.trailer.specs.declared.Kind.{Kind}
@@ -25,7 +27,7 @@ use Rattle.trailer.specs.declared.Fields.{Fields}
 use Rattle.cutter.specs.Limits.{bytes_least, side_least, side_most, step_most, radius_most, height_most}
 use Rattle.cutter.specs.Map.{trailer_of, distance_of, width_of, depth_of}
 use Rattle.cutter.specs.List.{count_of, list_length, list_bytes}
-use Rattle.cutter.specs.Sizes.{within, is_sized, is_stepped, trailer_refusal, is_whole}
+use Rattle.cutter.specs.Sizes.{within, is_sized, is_stepped, trailer_refusal, trailer_asked, is_whole}
 use Rattle.cutter.specs.Call.{heights_within, has_room, heights_refusal, map_refusal, list_refusal, list_answer, buffer_after}
 use Rattle.cutter.specs.Accepted.{Sizes, Steps, Trailed, Accepted, Ready}
 use Rattle.cutter.proofs.Counts.{count_most}
@@ -37,14 +39,14 @@ within-is low high x e =
     let p = both-are (leb low x) (leb x high) e in
     (leb-true low x p.0, leb-true x high p.1)
 
-sizes-are : (w d : ℕ) → is_sized w d ≡ true → Sizes w d
+pub sizes-are : (w d : ℕ) → is_sized w d ≡ true → Sizes w d
 sizes-are w d e =
     let p = both-are (within side_least side_most w) (within side_least side_most d) e in
     let x = within-is side_least side_most w p.0 in
     let y = within-is side_least side_most d p.1 in
     record { wide = x.0; narrow = x.1; deep = y.0; shallow = y.1 }
 
-steps-are : (step radius : ℕ) → is_stepped step radius ≡ true → Steps step radius
+pub steps-are : (step radius : ℕ) → is_stepped step radius ≡ true → Steps step radius
 steps-are step radius e =
     let p = both-are (within 1 step_most step) (within 1 radius_most radius) e in
     let x = within-is 1 step_most step p.0 in
@@ -108,6 +110,12 @@ pub trailer-yes : (k : Kind) (number : ℕ) (m : List ℕ) → bytes_least ≤ l
 unfolding trailer_refusal
 trailer-yes k number m h e s t =
     ask-yes _ 5 _ 0 (le-leb bytes_least (length m) h) (ask-yes _ number _ 0 e (ask-yes _ 7 _ 0 s (ask-yes _ 8 0 0 t refl)))
+
+-- by cases they give the same number, the letters' being that of the kind's refusal
+pub trailer-number : (k : Kind) (m : List ℕ) → refusal_of (trailer_asked k m) ≡ trailer_refusal k (number_of (letters_refusal k)) m
+unfolding trailer_refusal
+trailer-number k m =
+    simp (refusal-then, refusal-asked)
 
 -- they give no number above 8 and their own
 trailer-most : (k : Kind) (number : ℕ) (m : List ℕ) (n : ℕ) → 8 ≤ n → number ≤ n → trailer_refusal k number m ≤ n

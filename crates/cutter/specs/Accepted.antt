@@ -31,6 +31,13 @@ pub record Trailed (k : Kind) (m : List ℕ) : Type 0 where
   pub sizes : Sizes (last_fields k m).width (last_fields k m).depth
   pub steps : Steps (last_fields k m).step (last_fields k m).radius
 
+-- the same of the trailer as it was read
+pub record TrailerHeld (k : Kind) (m : List ℕ) (t : Fields) : Type 0 where
+  pub is : t ≡ last_fields k m
+  pub fits : length_of k ≤ length m
+  pub sizes : Sizes t.width t.depth
+  pub steps : Steps t.step t.radius
+
 -- question 10, of a map that holds n heights
 pub record Heights (m : List ℕ) (n : ℕ) : Type 0 where
   pub held : 4 * n ≤ length m

@@ -1,9 +1,13 @@
 -- The questions that a map and a list are asked alike, about the trailer that they end in. Assumes nothing.
-use Rattle.std.specs.Prelude.{ℕ, ◌+◌, Bool, ◌&&◌, List, leb, eqb, length}
+use Rattle.std.specs.Prelude.{ℕ, ◌+◌, Bool, ◌&&◌, List, leb, eqb, length, Result}
+use Rattle.kinds.specs.declared.Refusal.{Refusal}
+use Rattle.kinds.specs.declared.Refusal.TheVariants as R
 use Rattle.kinds.specs.Question.{ask}
-use Rattle.trailer.specs.Kinds.{length_of}
+use Rattle.kinds.specs.Refusal.{asked, then}
+use Rattle.trailer.specs.Kinds.{length_of, letters_refusal}
 use Rattle.trailer.specs.Bytes.{last_fields, ends_in}
 use Rattle.trailer.specs.declared.Kind.{Kind}
+use Rattle.trailer.specs.declared.Fields.{Fields}
 use Rattle.cutter.specs.Limits.{bytes_least, side_least, side_most, step_most, radius_most}
 
 -- whether x is from low to high
@@ -26,6 +30,14 @@ trailer_refusal k number m =
     (ask (is_sized (last_fields k m).width (last_fields k m).depth) 7
     (ask (is_stepped (last_fields k m).step (last_fields k m).radius) 8
     0)))
+
+-- the same by cases, and where each is answered "yes" the trailer's fields
+abbrev pub trailer_asked : Kind → List ℕ → Result Fields Refusal
+trailer_asked k m =
+    then (asked (leb bytes_least (length m)) R.Short m) (λ b.
+    then (asked (ends_in k b) (letters_refusal k) (last_fields k b)) (λ t.
+    then (asked (is_sized t.width t.depth) R.Sides t) (λ t.
+    asked (is_stepped t.step t.radius) R.Lengths t)))
 
 -- question 9 of a map, 13 of a list: is the distance back the bytes that the sizes ask for, and the whole that plus the trailer's?
 abbrev pub is_whole : Kind → ℕ → ℕ → ℕ → Bool

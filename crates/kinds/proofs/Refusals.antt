@@ -14,6 +14,12 @@ unfolding ask
 refusal-then true e x f = refl
 refusal-then false e x f = refl
 
+-- so is that of the last
+pub refusal-asked : {A : Type 0} (t : Bool) (e : Refusal) (x : A) → refusal_of (asked t e x) ≡ ask t (number_of e) 0
+unfolding ask
+refusal-asked true e x = refl
+refusal-asked false e x = refl
+
 -- its answer is that of what follows, and 0 after a "no"
 pub answer-then :
     {A : Type 0} (t : Bool) (e : Refusal) (x : A) (f : A → Result ℕ Refusal) →

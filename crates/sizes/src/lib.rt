@@ -1,12 +1,13 @@
 // The questions that a map and a list are asked alike, about the trailer that they end in, and the length of a list by its sizes.
 #![tactic(auto)]
 
-ghost use Rattle.std.specs.Prelude.{◌≡◌, ◌*◌, ◌≤◌};
+ghost use Rattle.std.specs.Prelude.{◌≡◌, ◌*◌, ◌≤◌, IfOk};
 ghost use Rattle.cutter.specs.List.{count_of};
-ghost use Rattle.cutter.specs.Sizes.{is_sized, is_stepped, trailer_refusal, is_whole};
-ghost use Rattle.cutter.specs.Accepted.{Sizes};
+ghost use Rattle.cutter.specs.Sizes.{is_sized, is_stepped, trailer_refusal, trailer_asked, is_whole};
+ghost use Rattle.cutter.specs.Accepted.{Sizes, TrailerHeld};
 
-use trailer::{Kind, ends_in, length_of, read_last};
+use kinds::Refusal;
+use trailer::{Fields, Kind, ends_in, length_of, letters_refusal, read_last};
 
 // The limits of a trailer's numbers; lengths are micrometres.
 const BYTES_LEAST: usize = 16;
@@ -19,6 +20,27 @@ const STEP_MOST: u64 = 10000;
 
 const RADIUS_MOST: u64 = 12500;
 
+// Questions 5, 6 or 12 by the kind, 7 and 8, and where each is answered "yes" the fields of the trailer.
+pub fn read_trailer(bytes: &[u8], kind: Kind) -> Result<Fields, Refusal>
+    ensures value { result ≡ trailer_asked kind bytes.now }
+    ensures held { IfOk result (λ t. TrailerHeld kind bytes.now t) }
+{
+    if bytes.len() < BYTES_LEAST {
+        return Err(Refusal::Short);
+    }
+    if !ends_in(bytes, kind) {
+        return Err(letters_refusal(kind));
+    }
+    let trailer = read_last(bytes, kind);
+    if !sizes_hold(trailer.width, trailer.depth) {
+        return Err(Refusal::Sides);
+    }
+    if !steps_hold(trailer.step, trailer.radius) {
+        return Err(Refusal::Lengths);
+    }
+    Ok(trailer)
+}
+
 // The number of the first question that is answered "no", or 0; the number given is that of the kind's letters.
 pub fn refusal(bytes: &[u8], kind: Kind, number: u8) -> u8
     ensures { result ≡ trailer_refusal kind number bytes.now }
@@ -29,11 +51,11 @@ pub fn refusal(bytes: &[u8], kind: Kind, number: u8) -> u8
     if !ends_in(bytes, kind) {
         return number;
     }
-    let trailer = read_last(bytes, kind);
-    if !sizes_hold(trailer.width, trailer.depth) {
+    let fields = read_last(bytes, kind);
+    if !sizes_hold(fields.width, fields.depth) {
         return 7;
     }
-    if !steps_hold(trailer.step, trailer.radius) {
+    if !steps_hold(fields.step, fields.radius) {
         return 8;
     }
     0

@@ -1,5 +1,7 @@
 -- The kinds of trailers, those of `trailer::Kind`: letters, length, width of the radius, and whether a rounding stands last. Assumes nothing.
 use Rattle.std.specs.Prelude.{ℕ, ◌+◌, ◌≤◌, ◌≡◌, Bool, true, false, List, [], ◌∷◌}
+use Rattle.kinds.specs.declared.Refusal.{Refusal}
+use Rattle.kinds.specs.declared.Refusal.TheVariants.{MapLetters, ListLetters}
 use Rattle.trailer.specs.declared.Kind.{Kind}
 use Rattle.trailer.specs.declared.Kind.TheVariants.{Plt1, Cut1, Cut2}
 use Rattle.trailer.specs.declared.Layout.{Layout}
@@ -16,6 +18,12 @@ new_list = Cut2
 
 abbrev pub letters_of : Kind → List ℕ
 letters_of k = (layout_of k).letters
+
+-- why bytes that end in other letters are refused
+abbrev pub letters_refusal : Kind → Refusal
+letters_refusal Plt1 = MapLetters
+letters_refusal Cut1 = ListLetters
+letters_refusal Cut2 = ListLetters
 
 -- how many bytes a trailer has
 abbrev pub length_of : Kind → ℕ

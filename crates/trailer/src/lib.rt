@@ -2,10 +2,11 @@
 #![tactic(auto)]
 
 ghost use Rattle.std.specs.Prelude.{◌≡◌, ◌+◌, ◌≤◌, length};
-ghost use Rattle.trailer.specs.Kinds.{LayoutIs, length_of, radius_size, rounding_size};
+ghost use Rattle.trailer.specs.Kinds.{LayoutIs, letters_refusal, length_of, radius_size, rounding_size};
 ghost use Rattle.trailer.specs.Bytes.{ends_in, list_kind};
 ghost use Rattle.trailer.specs.Reading.{RadiusRead, RoundingRead, TrailerRead, LastRead};
 
+use kinds::Refusal;
 use words::{half_at, reads_at, word_at};
 
 // The trailers of maps and of lists.
@@ -60,6 +61,16 @@ pub fn layout_of(kind: Kind) -> Layout
             wide: false,
             rounded: true,
         },
+    }
+}
+
+// Why bytes that end in other letters are refused.
+pub fn letters_refusal(kind: Kind) -> Refusal
+    ensures { result ≡ letters_refusal kind }
+{
+    match kind {
+        Kind::Plt1 => Refusal::MapLetters,
+        Kind::Cut1 | Kind::Cut2 => Refusal::ListLetters,
     }
 }
 

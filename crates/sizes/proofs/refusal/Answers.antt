@@ -8,8 +8,8 @@ returns-then-bytes-lt-BYTES_LEAST c = search five
 pub returns-then-not-ends_in : goal.returns-then-not-ends_in
 returns-then-not-ends_in c = search letters
 
-pub read_last-trailer-requires : goal.read_last-trailer-requires
-read_last-trailer-requires c = search trailer-fits
+pub read_last-fields-requires : goal.read_last-fields-requires
+read_last-fields-requires c = search trailer-fits
 
 pub returns-then-not-sizes_hold : goal.returns-then-not-sizes_hold
 returns-then-not-sizes_hold c = search seven
