@@ -7,13 +7,12 @@ ghost use Rattle.significand.specs.Width.{k64};
 ghost use Rattle.significand.specs.Steps.{multiplier_of};
 
 use kinds::Op;
-use wide::product;
 
 // No M is above 2^61.
 pub const MOST: u64 = 0x2000_0000_0000_0000;
 
-// A half of a word has 32 bits.
-const HALF: u64 = 0x1_0000_0000;
+// 2^64: a product of two numbers of 64 bits has two words.
+const WORD: u128 = 0x1_0000_0000_0000_0000;
 
 // Whether m is the M of an operation for R and the parity p.
 pub fn holds(op: Op, m: u64, r: u64, p: u64) -> bool
@@ -49,29 +48,22 @@ fn half_below(w: u64) -> u64
 }
 
 // The limit is a multiple of 2^96, so what u² × r has above its lower 96 bits tells.
+#[tactic(auto, using(crate::proofs::Words::root_passes_is))]
 fn root_passes(u: u64, r: u64, p: u64) -> bool
     requires { (r ≤ 2 ^ 16) × (p ≤ 1) }
     ensures { result ≡ ltb (u * u * r) (2 ^ (138 + p)) }
 {
-    let square = product(u, u);
-    let low = product(square.low, r);
-    let middle = scaled(square.high % HALF, r) + low.high;
-    let high = scaled(square.high / HALF, r) + middle / HALF;
-    high < 0x400_0000_0000 << p
+    let square = u as u128 * u as u128;
+    let low = square % WORD * r as u128;
+    let high = square / WORD * r as u128 + low / WORD;
+    ((high >> 32) as u64) < 0x400_0000_0000 << p
 }
 
 // Divided by 2^(16 + p), the limit is a multiple of 2^64, so the upper word of u² tells.
+#[tactic(auto, using(crate::proofs::Words::inverse_root_passes_is))]
 fn inverse_root_passes(u: u64, r: u64, p: u64) -> bool
     requires { (r ≤ 2 ^ 16) × (p ≤ 1) }
     ensures { result ≡ ltb (u * u * 2 ^ (16 + p)) (r * 2 ^ 122) }
 {
-    product(u, u).high < r << (42 - p)
-}
-
-// A half of a word times R.
-fn scaled(a: u64, r: u64) -> u64
-    requires { (a < 2 ^ 32) × (r ≤ 2 ^ 16) }
-    ensures { (result ≡ a * r) × (result ≤ 2 ^ 48) }
-{
-    a * r
+    ((u as u128 * u as u128 / WORD) as u64) < r << (42 - p)
 }

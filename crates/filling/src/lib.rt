@@ -11,12 +11,14 @@ ghost use Rattle.significand.specs.Call.{fill_refusal, slice_after};
 use entries::{MOST, at_most};
 use kinds::Op;
 use std::num::{wrapping_add_u64, wrapping_sub_u64};
-use wide::product;
 
 // The entries of one table, and of all four.
 const TABLE: usize = 32768;
 
 const LENGTH: usize = 131072;
+
+// 2^64: a product of two numbers of 64 bits has two words.
+const WORD: u128 = 0x1_0000_0000_0000_0000;
 
 // The least i.
 const FIRST: usize = 32768;
@@ -127,16 +129,15 @@ fn start(table: &[u64], n: usize, r: u64) -> u64
 
 // x × f / 2^63.
 fn scaled(x: u64, f: u64) -> u64 {
-    let w = product(x, f);
-    (w.high << 1) | (w.low >> 63)
+    ((x as u128 * f as u128 >> 63) % WORD) as u64
 }
 
 // One of Newton's steps toward 2^68 / √r: x − x × v / 2^73, where r × x² / 2^64 is 2^72 + v and v may be negative.
 fn newton(r: u64, x: u64) -> u64 {
-    let square = product(x, x);
-    let v = wrapping_add_u64(product(square.high, r).low, product(square.low, r).high);
+    let square = x as u128 * x as u128;
+    let v = (square.wrapping_mul(r as u128) / WORD) as u64;
     if v < 0x8000_0000_0000_0000 {
-        return wrapping_sub_u64(x, product(x, v).high / 512);
+        return wrapping_sub_u64(x, (x as u128 * v as u128 >> 73) as u64);
     }
-    wrapping_add_u64(x, product(x, wrapping_sub_u64(0, v)).high / 512)
+    wrapping_add_u64(x, (x as u128 * wrapping_sub_u64(0, v) as u128 >> 73) as u64)
 }

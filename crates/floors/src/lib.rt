@@ -12,7 +12,6 @@ ghost use Rattle.ieee.specs.Floor.{target_of, Floored};
 
 use kinds::Op;
 use std::num::wrapping_add_u64;
-use wide::low_product;
 
 // A floor, and whether something lies above it.
 #[derive(Clone, Copy)]
@@ -78,7 +77,7 @@ fn inverse_root(y: u64, p: u64, g: u64) -> Floor
     ensures { Floored InverseRoot y (target_of 23 InverseRoot y p) result.quotient result.more }
 {
     let q = (g + 1) / 8;
-    let side = low_product(q * q, y);
+    let side = (q * q).wrapping_mul(y);
     let next = wrapping_add_u64(side, (2 * q + 1) * y);
     let above = is_above(side) as u64;
     let next_above = is_above(next) as u64;

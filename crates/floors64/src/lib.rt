@@ -12,7 +12,6 @@ ghost use Rattle.floors64.specs.Settled.{settled_of};
 use floors::Floor;
 use kinds::Op;
 use std::num::wrapping_sub_u64;
-use wide::{low_product, low_square_product};
 
 // The floor of each operation's target.
 pub fn floor_of(op: Op, y: u64, p: u64, g: u64) -> Floor
@@ -28,6 +27,8 @@ pub fn floor_of(op: Op, y: u64, p: u64, g: u64) -> Floor
 
 // What a number's side is above the target, modulo 2^64 or 2^128, is below the half of that where the number is too large.
 const HALF: u64 = 0x8000_0000_0000_0000;
+
+const WIDE_HALF: u128 = 0x8000_0000_0000_0000_0000_0000_0000_0000;
 
 // The number tried: `apart` says that its side is not the target, `above` that then it is above it.
 fn settled(q: u64, apart: bool, above: bool) -> Floor
@@ -52,7 +53,7 @@ fn reciprocal(y: u64, g: u64) -> Floor
     ensures { Floored Reciprocal y (target_of 52 Reciprocal y 0) result.quotient result.more }
 {
     let q = (g + 12) / 64;
-    let over = low_product(q, y);
+    let over = q.wrapping_mul(y);
     settled(q, over != 0, over < HALF)
 }
 
@@ -62,7 +63,7 @@ fn root(y: u64, p: u64, g: u64) -> Floor
     ensures { Floored Root y (target_of 52 Root y p) result.quotient result.more }
 {
     let q = (g + 7) / 128;
-    let over = wrapping_sub_u64(low_product(q, q), y << (54 + p));
+    let over = wrapping_sub_u64(q.wrapping_mul(q), y << (54 + p));
     settled(q, over != 0, over < HALF)
 }
 
@@ -72,6 +73,6 @@ fn inverse_root(y: u64, p: u64, g: u64) -> Floor
     ensures { Floored InverseRoot y (target_of 52 InverseRoot y p) result.quotient result.more }
 {
     let q = (g + 7) / 64;
-    let over = low_square_product(q, y);
-    settled(q, (over.high != 0) | (over.low != 0), over.high < HALF)
+    let over = (q as u128 * q as u128).wrapping_mul(y as u128);
+    settled(q, over != 0, over < WIDE_HALF)
 }

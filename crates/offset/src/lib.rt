@@ -10,7 +10,6 @@ ghost use Rattle.offset.specs.Settled.{settled_by, sign_of};
 
 use kinds::Mode;
 use std::num::{wrapping_add_u64, wrapping_sub_u64};
-use wide::low_product;
 
 // A component of the normal by its sign and its magnitude, with the square of that.
 #[derive(Clone, Copy)]
@@ -65,10 +64,10 @@ fn settled(rest: u64, start: u64, square: u64, radius: u64, q: u64) -> u64
     let t = (start + (2 - rest) / 2) / 2;
     let m = 2 * t + rest;
     let limit = wrapping_add_u64(
-        low_product(square, 4 * (radius * radius)),
+        square.wrapping_mul(4 * (radius * radius)),
         (rest + t % 2) / 2,
     );
-    t + sign_of(low_product(m * m, q), limit)
+    t + sign_of((m * m).wrapping_mul(q), limit)
 }
 
 // The same where the rest is two halves, toward zero, or none, away from it: a quarter of both numbers is enough.
@@ -78,8 +77,8 @@ fn settled_whole(inward: u64, start: u64, square: u64, radius: u64, q: u64) -> u
 {
     let t = (start + 1 - inward) / 2;
     let u = t + inward;
-    let limit = wrapping_add_u64(low_product(square, radius * radius), inward);
-    t + sign_of(low_product(u * u, q), limit)
+    let limit = wrapping_add_u64(square.wrapping_mul(radius * radius), inward);
+    t + sign_of((u * u).wrapping_mul(q), limit)
 }
 
 // The sign of a less b, of which the lower words are given: 1 where the difference is negative, 0 where it is not.

@@ -1,7 +1,7 @@
 -- Steps 1, 2 and 5 at k = 15 as the code works them. Assumes nothing.
 use mathlib.Core.Path.{◌≡◌, sym, ap, ◌∙◌}
 use mathlib.Core.List.{[], ◌∷◌}
-use Prim.Native.Nat.{ℕ, ◌+◌, ◌*◌, ◌-◌, ◌/◌, ◌%◌, ◌^◌, ◌≤◌, ◌<◌}
+use Prim.Native.Nat.{ℕ, ◌*◌, ◌-◌, ◌/◌, ◌%◌, ◌^◌, ◌≤◌, ◌<◌}
 use native.Mathlib.Nat.{mul-le-mul, mul-div-le, lt-mul-div-succ}
 use native.Mathlib.Omega.{arith}
 use lib.IntN.{ℤ, pos, nat_abs, ◌-ℤ◌}
@@ -15,9 +15,6 @@ use Rattle.significand.proofs.Reduction.{index-least, least, most, reduced-small
 use Rattle.significand.proofs.Split.{difference-split}
 use Rattle.series.specs.Parts.{Reduced}
 use Rattle.series.proofs.Parts.{sign-test}
-use Rattle.wide.specs.Wide.{wide_of}
-use Rattle.wide.specs.declared.Wide.{Wide}
-use Rattle.wide.proofs.Words.{high_is, low-is}
 
 -- i is not 0, and R has 16 bits, or is 2^16
 module _ (y : ℕ) (Y : Significand k64 t64 y) where
@@ -120,22 +117,3 @@ module _ (y r : ℕ) (Y : Significand k64 t64 y) (e : r ≡ factor_of k64 (y / 2
         magnitude = magnitude;
         small = rw (magnitude, e) (reduced-small k64 t64 y (omega arith) Y);
       }
-
--- M × b has 122 bits, and its words shifted are the product over 2^60
-module _ (m b : ℕ) (w : Wide) (e : w ≡ wide_of (m * b)) where
-  pub scaled-is : w.high * 16 + w.low / 1152921504606846976 ≡ m * b / 2 ^ 60
-  scaled-is = omega (arith, high_is (m * b) w e, low-is (m * b) w e)
-
-  high_small : m ≤ 2 ^ 61 → b < 2 ^ 61 → w.high < 2 ^ 58
-  high_small hm hb =
-      omega (
-        arith,
-        high_is (m * b) w e,
-        mul-le-mul {n₁ = m} {m₁ = b} {n₂ = 2305843009213693952} {m₂ = 2305843009213693951} hm (omega arith),
-      )
-
-  pub high_fits : m ≤ 2 ^ 61 → b < 2 ^ 61 → Fits w64 (w.high * 16)
-  high_fits hm hb = record { fits = omega (arith, high_small hm hb) }
-
-  pub scaled_fits : m ≤ 2 ^ 61 → b < 2 ^ 61 → Fits w64 (w.high * 16 + w.low / 1152921504606846976)
-  scaled_fits hm hb = record { fits = omega (arith, high_small hm hb, low-is (m * b) w e) }

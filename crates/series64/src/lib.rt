@@ -98,6 +98,5 @@ pub fn scaled(m: u64, b: u64) -> u64
     requires { (m ≤ 2 ^ 61) × (b < 2 ^ 61) }
     ensures { result ≡ m * b / 2 ^ 60 }
 {
-    let w = wide::product(m, b);
-    w.high * 16 + w.low / 0x1000_0000_0000_0000
+    ((m as u128 * b as u128) >> 60) as u64
 }

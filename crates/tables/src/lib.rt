@@ -1,5 +1,5 @@
-// A match whose keys count up and whose arms are literals is a table in read-only memory, and one computed test proves its rule at all
-// entries. Here are the row of a root's table and the laws; `factors`, `roots` and `inverse_roots` have the tables.
+// The row of a root's table, and the law of all three tables, which `factors`, `roots` and `inverse_roots` hold as arrays in read-only memory:
+// `tables/Rows.entry` gives the rule of each at every entry, from one computed test of the whole array. `tools/make_tables.py` writes them.
 #![tactic(auto)]
 
 // A row of a root's table: R, then M.
