@@ -1,13 +1,15 @@
 -- What a rounded call answers and the new status, over the format; and the binary32 call with its questions. Assumes nothing.
-use Rattle.std.specs.Prelude.{ℕ, ◌%◌, cond, eqb}
+use Rattle.std.specs.Prelude.{ℕ, ◌%◌, cond, eqb, Result, Ok, Err}
 use Rattle.std.specs.Int.Bits.{bit_or}
 use Rattle.kinds.specs.declared.Op.{Op}
 use Rattle.kinds.specs.declared.Mode.{Mode}
 use Rattle.kinds.specs.Operation.{is_operation, op_of}
 use Rattle.kinds.specs.Rounding.{is_rounding, mode_of}
 use Rattle.kinds.specs.Question.{ask}
+use Rattle.kinds.specs.declared.Refusal.{Refusal}
+use Rattle.kinds.specs.Refusal.{then, operation_asked, rounding_asked}
 use Rattle.ieee.specs.Format.{Format, binary32}
-use Rattle.ieee.specs.Answer.{answer_of}
+use Rattle.ieee.specs.Answer.{Answer, answer_of}
 
 -- the answer's bits where the call's refusal is 0, and 0 after a "no"
 unfoldable pub bits_of : Format → ℕ → Op → Mode → ℕ → ℕ
@@ -28,3 +30,20 @@ binary32_bits operation rounding b = bits_of binary32 (binary32_refusal operatio
 abbrev pub binary32_status : ℕ → ℕ → ℕ → ℕ → ℕ
 binary32_status operation rounding b status =
     status_of binary32 (binary32_refusal operation rounding) (op_of operation) (mode_of rounding) b status
+
+-- the same by cases: the questions in their order, and the answer behind them
+abbrev pub binary32_asked : ℕ → ℕ → ℕ → Result Answer Refusal
+binary32_asked operation rounding b =
+    then (operation_asked operation) (λ op.
+    then (rounding_asked rounding) (λ mode.
+    Ok (answer_of binary32 op mode b)))
+
+-- what such a reply says in numbers: the answer's bits, 0 after a refusal,
+abbrev pub bits_told : Result Answer Refusal → ℕ
+bits_told (Ok a) = a.bits
+bits_told (Err e) = 0
+
+-- and the new status, the one given after a refusal
+abbrev pub status_told : Result Answer Refusal → ℕ → ℕ
+status_told (Ok a) status = bit_or (status % 32) (a.flags % 32)
+status_told (Err e) status = status

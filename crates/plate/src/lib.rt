@@ -9,6 +9,9 @@ pub mod c;
 ghost use Rattle.std.specs.Prelude.{◌≡◌, length};
 ghost use Rattle.kinds.specs.declared.Rule.TheVariants.{Touching, Lifted};
 ghost use Rattle.significand.specs.Call.{fill_refusal, slice_after};
+ghost use Rattle.ieee.specs.Format.{binary32};
+ghost use Rattle.ieee.specs.Call.{binary32_asked};
+ghost use Rattle.pattern.specs.Answer.{Replied};
 ghost use Rattle.plate.specs.Status.{raised, cleared};
 ghost use Rattle.plate.specs.Raw.{raw_call};
 ghost use Rattle.plate.specs.Raw64.{raw64_call};
@@ -17,7 +20,8 @@ ghost use Rattle.plate.specs.Binary64.{binary64_call};
 ghost use Rattle.plate.specs.List.{ListCall};
 ghost use Rattle.plate.specs.Record.{list_rounding, record_call};
 
-use kinds::{Flags, Rule, joined};
+use kinds::{Flags, Mode, Op, Refusal, Rule, joined};
+use pattern::answer::Rounded;
 
 // An operation by its number.
 #[derive(Clone, Copy)]
@@ -161,12 +165,30 @@ pub fn binary32(
 ) -> Binary32Reply
     ensures { result ≡ binary32_call operation.0 rounding.0 bits status }
 {
-    let r = binary32::call(operation.0, rounding.0, bits, status.flags);
-    Binary32Reply {
-        refusal: r.refusal,
-        bits: r.bits,
-        status: Status { flags: r.status },
+    match binary32_rounded(operation.0, rounding.0, bits) {
+        Ok(r) => Binary32Reply {
+            refusal: 0,
+            bits: r.bits as u32,
+            status: Status {
+                flags: joined(status.flags, r.flags),
+            },
+        },
+        Err(refusal) => Binary32Reply {
+            refusal: refusal.number(),
+            bits: 0,
+            status,
+        },
     }
+}
+
+// Questions 1 and 2, and the answer with the flags that it raises.
+#[inline(always)]
+fn binary32_rounded(operation: u8, rounding: u8, bits: u32) -> Result<Rounded, Refusal>
+    ensures { Replied binary32 (binary32_asked operation rounding bits) result }
+{
+    let op = Op::try_from(operation)?;
+    let mode = Mode::try_from(rounding)?;
+    Ok(binary32::rounded(op, mode, bits))
 }
 
 // What the binary64 call gives back, as the binary32 call does.
