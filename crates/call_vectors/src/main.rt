@@ -3,86 +3,110 @@
 // hexadecimal, and all other numbers decimal.
 #![tactic(auto)]
 
-ghost use Rattle.std.specs.Prelude.{◌≤◌, ◌<◌, length, IfOk};
+ghost use Rattle.std.specs.Prelude.{◌≤◌, length};
+ghost use Rattle.std.specs.Iterator.{at_most};
 
 use input::read_full;
-use lines::{behind, byte, number_at};
+use lines::Reader;
+use plate::{Operation, Rounding, Status};
 use std::io::Result;
 
 fn main(rt: HostRuntime) -> Result<()> {
     let mut text = [0u8; 262144];
     let n = read_full(&mut rt.stdin(), &mut text)?;
-    answer_all(&rt, &text[..n])
+    answer_all(&rt, Calls(Reader::new(&text[..n])))
 }
 
-fn answer_all(rt: &impl Print, text: &[u8]) -> Result<()> {
-    let mut at = 0;
-    while at < text.len() {
-        at = answer_line(rt, text, at)?;
+fn answer_all(rt: &impl Print, calls: Calls) -> Result<()> {
+    for call in calls {
+        call.answer(rt)?;
     }
     Ok(())
 }
 
-// Answers the line at a place, and gives the place of the next one.
-fn answer_line(rt: &impl Print, text: &[u8], at: usize) -> Result<usize>
-    requires { at < length text.now }
-    ensures { IfOk result (λ next. (at < next) × (next ≤ length text.now)) }
-{
-    let operands = behind(text, at + 1);
-    if text[at] == b'r' {
-        return raw(rt, text, operands);
+// What a line asks.
+#[derive(Clone, Copy)]
+enum Call {
+    Raw {
+        operation: Operation,
+        significand: u32,
+        parity: u8,
+    },
+    Binary32 {
+        operation: Operation,
+        rounding: Rounding,
+        bits: u32,
+        status: Status,
+    },
+}
+
+// The calls of a text, line by line.
+#[derive(Drop)]
+struct Calls<'a>(Reader<'a>);
+
+impl Iterator for Calls<'_> {
+    type Item = Call;
+
+    ghost remaining = { λ calls. at_most (length calls.0) };
+
+    fn next(&mut self) -> Option<Call> {
+        let text = &mut self.0;
+        let letter = text.letter()?;
+        text.letter();
+        Some(if letter == b'r' {
+            Call::raw(text)
+        } else {
+            Call::binary32(text)
+        })
     }
-    binary32(rt, text, operands)
 }
 
-// Calls on the operands at a place, and gives the place behind them.
-fn raw(rt: &impl Print, text: &[u8], at: usize) -> Result<usize>
-    requires { at ≤ length text.now }
-    ensures { IfOk result (λ next. (at ≤ next) × (next ≤ length text.now)) }
-{
-    let operation = number_at(text, at, 10);
-    let significand = number_at(text, operation.next, 10);
-    let parity = number_at(text, significand.next, 10);
-    show_raw(
-        rt,
-        plate::raw(
-            plate::Operation(byte(operation.value)),
-            significand.value as u32,
-            byte(parity.value),
-        ),
-    )?;
-    Ok(parity.next)
-}
+impl Call {
+    // Takes the operands.
+    fn raw(text: &mut Reader) -> Call
+        ensures { length text.new ≤ length text.old }
+    {
+        Call::Raw {
+            operation: Operation(text.byte()),
+            significand: text.number(10),
+            parity: text.byte(),
+        }
+    }
 
-fn binary32(rt: &impl Print, text: &[u8], at: usize) -> Result<usize>
-    requires { at ≤ length text.now }
-    ensures { IfOk result (λ next. (at ≤ next) × (next ≤ length text.now)) }
-{
-    let operation = number_at(text, at, 10);
-    let rounding = number_at(text, operation.next, 10);
-    let bits = number_at(text, rounding.next, 16);
-    let status = number_at(text, bits.next, 10);
-    show_binary32(
-        rt,
-        plate::binary32(
-            plate::Operation(byte(operation.value)),
-            plate::Rounding(byte(rounding.value)),
-            bits.value as u32,
-            plate::Status {
-                flags: byte(status.value),
-            },
-        ),
-    )?;
-    Ok(status.next)
-}
+    fn binary32(text: &mut Reader) -> Call
+        ensures { length text.new ≤ length text.old }
+    {
+        Call::Binary32 {
+            operation: Operation(text.byte()),
+            rounding: Rounding(text.byte()),
+            bits: text.number(16),
+            status: Status { flags: text.byte() },
+        }
+    }
 
-// Write a reply as a line.
-fn show_raw(rt: &impl Print, r: plate::RawReply) -> Result<()> {
-    println!(rt; "{} {}", r.refusal, r.answer)
-}
-
-fn show_binary32(rt: &impl Print, r: plate::Binary32Reply) -> Result<()> {
-    print!(rt; "{} ", r.refusal)?;
-    rt.write_all(&lines::hex(r.bits))?;
-    println!(rt; " {}", r.status.flags)
+    // Makes the call, and writes a line of what it gives.
+    fn answer(self, rt: &impl Print) -> Result<()> {
+        match self {
+            Call::Raw {
+                operation,
+                significand,
+                parity,
+            } => {
+                let reply = plate::raw(operation, significand, parity);
+                println!(rt; "{} {}", reply.refusal, reply.answer)
+            }
+            Call::Binary32 {
+                operation,
+                rounding,
+                bits,
+                status,
+            } => {
+                let reply = plate::binary32(operation, rounding, bits, status);
+                println!(rt;
+                    "{} {:08X} {}",
+                    reply.refusal, reply.bits, reply.status.flags
+                )
+            }
+        }
+    }
 }

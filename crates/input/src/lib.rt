@@ -1,11 +1,15 @@
-// Bytes of a reader put into a lent buffer, for programs that read standard input.
+// Bytes of a reader put into a lent buffer or read as a number, and a digest of numbers, for programs that read standard input.
 #![tactic(auto)]
 
-ghost use Rattle.std.specs.Prelude.{◌≡◌, ℕ, ◌<◌, ◌≤◌, length, take, IfOk, OnErr};
+ghost use Rattle.std.specs.Prelude.{◌≡◌, ℕ, ◌+◌, ◌*◌, ◌%◌, ◌<◌, ◌≤◌, List, length, take, IfOk, OnErr, MatchOption};
+ghost use Rattle.std.specs.Int.{w32, from_le_bytes};
 ghost use Rattle.std.specs.Io.{ReadsAtMost};
 ghost use Rattle.std.specs.Io.KnownBytes.{Keeps, Consumes, IsAtEnd};
 
 use std::io::{ErrorKind, Read, Result};
+
+// The prime that digests are counted by.
+const PRIME: u64 = 4294967291;
 
 // Reads until the buffer is full or the input ends, and gives how many bytes it put at the front: the next ones of the input, all of them
 // if there is room left. If a read fails, its error is the answer. The bytes that were read before it stand at the front then.
@@ -24,6 +28,24 @@ pub fn read_full<R: Read>(input: &mut R, bytes: &mut [u8]) -> Result<usize>
         filled += more;
     }
     Ok(filled)
+}
+
+// The number of the next four bytes, the lowest first. None if the input ends before there are four.
+pub fn read_word<R: Read>(input: &mut R) -> Result<Option<u32>>
+    ensures { IfOk result (λ word. MatchOption word (IsAtEnd (R.remaining input.new)) (λ n. (b : List ℕ) × Consumes (R.remaining input.old) (R.remaining input.new) b × (length b ≡ 4) × (n ≡ from_le_bytes w32 b))) }
+{
+    let mut bytes = [0u8; 4];
+    if read_full(input, &mut bytes)? < 4 {
+        return Ok(None);
+    }
+    Ok(Some(u32::from_le_bytes(bytes)))
+}
+
+// The digest of some numbers and one behind them, by their digest; that of no numbers is 1.
+pub fn digested(digest: u64, number: u64) -> u64
+    ensures { result ≡ (257 * (digest % PRIME) + number % PRIME + 1) % PRIME }
+{
+    (257 * (digest % PRIME) + number % PRIME + 1) % PRIME
 }
 
 // One read. It is tried again while a signal interrupts it.
