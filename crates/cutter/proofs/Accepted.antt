@@ -67,7 +67,7 @@ are-stepped step radius s =
 
 -- ---- the heights
 
-heights-small : (m : List ℕ) (n : ℕ) → heights_within m n ≡ true → (i : ℕ) → i < n → nat_abs (signed (word_at m (4 * i))) ≤ height_most
+pub heights-small : (m : List ℕ) (n : ℕ) → heights_within m n ≡ true → (i : ℕ) → i < n → nat_abs (signed (word_at m (4 * i))) ≤ height_most
 unfolding heights_within
 heights-small m zero e i h = absurd (not-suc-le-zero h)
 heights-small m (suc n) e i h =

@@ -1,5 +1,6 @@
 pub mod Counts
 pub mod Accepted
+pub mod Asked
 pub mod Lengths
 pub mod Offsets
 pub mod Ties

@@ -1,15 +1,19 @@
 -- The list calls: their questions, what they answer, and what the lent buffer holds after one. Assumes nothing.
-use Rattle.std.specs.Prelude.{ℕ, zero, suc, ◌*◌, Bool, true, cond, ◌&&◌, List, leb, eqb, length, nat_abs}
+use Rattle.std.specs.Prelude.{ℕ, zero, suc, ◌*◌, Bool, true, cond, ◌&&◌, List, leb, eqb, length, nat_abs, Result}
+use Rattle.kinds.specs.declared.Refusal.{Refusal}
+use Rattle.kinds.specs.declared.Refusal.TheVariants as R
 use Rattle.kinds.specs.Question.{ask, then_ask}
+use Rattle.kinds.specs.Refusal.{asked, then}
 use Rattle.kinds.specs.Rounding.{is_rounding, mode_of}
 use Rattle.kinds.specs.declared.Rule.{Rule}
 use Rattle.words.specs.Word.{word_at}
 use Rattle.words.specs.Signed.{signed}
 use Rattle.words.specs.Splice.{splice}
 use Rattle.trailer.specs.declared.Kind.TheVariants.{Plt1}
+use Rattle.trailer.specs.declared.Fields.{Fields}
 use Rattle.cutter.specs.Limits.{height_most}
 use Rattle.cutter.specs.Map.{distance_of, width_of, depth_of}
-use Rattle.cutter.specs.Sizes.{trailer_refusal, is_whole}
+use Rattle.cutter.specs.Sizes.{trailer_refusal, trailer_asked, is_whole}
 use Rattle.cutter.specs.List.{list_length, list_bytes}
 
 -- question 10 of the first n heights: is each from −50,000 to 50,000?
@@ -34,7 +38,18 @@ heights_refusal m room =
 unfoldable pub map_refusal : List ℕ → ℕ → ℕ
 map_refusal m room = then_ask (trailer_refusal Plt1 6 m) (heights_refusal m room)
 
--- the same of the call: question 2, and then the map's
+-- the same by cases: questions 5 to 10, and where each is answered "yes" the map's trailer
+abbrev pub map_asked : List ℕ → Result Fields Refusal
+map_asked m =
+    then (trailer_asked Plt1 m) (λ t.
+    then (asked (is_whole Plt1 (4 * (t.width * t.depth)) t.distance (length m)) R.MapDistance t) (λ t.
+    asked (heights_within m (t.width * t.depth)) R.Height t))
+
+-- those and 11, and where that is answered "yes" too the length of the map's list
+abbrev pub list_asked : List ℕ → ℕ → Result ℕ Refusal
+list_asked m room = then (map_asked m) (λ t. asked (has_room m room) R.Room (list_length m))
+
+-- the same in numbers, of the call: question 2, and then the map's
 unfoldable pub list_refusal : ℕ → List ℕ → ℕ → ℕ
 list_refusal rounding m room = ask (is_rounding rounding) 2 (map_refusal m room)
 

@@ -17,9 +17,12 @@ use Rattle.trailer.specs.declared.Fields.{Fields}
 use Rattle.trailer.proofs.Layouts.{length-trailer}
 use Rattle.cutter.specs.Map.{trailer_of}
 use Rattle.cutter.specs.List.{count_of, record_at, all_records, list_fields, list_length, list_bytes}
-use Rattle.cutter.specs.Call.{map_refusal}
 use Rattle.cutter.proofs.Lengths.{length-records, list-parts, list-length-is}
-use Rattle.cutter.proofs.Accepted.{held_of}
+
+
+held_of : (m : List ℕ) (room : ℕ) → list_length m ≤ room → (t : Fields) → t ≡ trailer_of m → 12 * count_of t.width t.depth + length_of new_list ≤ room
+unfolding list_length
+held_of m room h t e = rw e h
 
 module _ (m : List ℕ) (t : Fields) (n : ℕ) (e : t ≡ trailer_of m) (is : n ≡ 12 * count_of t.width t.depth) where
   -- the code's length is the list's
@@ -27,7 +30,7 @@ module _ (m : List ℕ) (t : Fields) (n : ℕ) (e : t ≡ trailer_of m) (is : n 
   length-of x f = cc (list-length-is m)
 
   -- the records, and the trailer with the map's numbers and the rounding's
-  pub list_put : (rule : Rule) (mode : Mode) (r : ℕ) (l l₁ l₂ : List ℕ) → map_refusal m (length l) ≡ 0
+  pub list_put : (rule : Rule) (mode : Mode) (r : ℕ) (l l₁ l₂ : List ℕ) → list_length m ≤ length l
       → l₁ ≡ splice 0 (joined (record_at rule mode m) (count_of t.width t.depth)) l
       → r ≡ number_of mode
       → l₂ ≡ splice n
@@ -47,7 +50,7 @@ module _ (m : List ℕ) (t : Fields) (n : ℕ) (e : t ≡ trailer_of m) (is : n 
       ∙ ap (λ (b : List ℕ). splice 0 b l) (sym (list-parts new_list rule mode m))
 
 -- the buffer holds both
-module _ (m : List ℕ) (room : ℕ) (z : map_refusal m room ≡ 0) (t : Fields) (e : t ≡ trailer_of m) where
+module _ (m : List ℕ) (room : ℕ) (z : list_length m ≤ room) (t : Fields) (e : t ≡ trailer_of m) where
   pub records-room : 12 * count_of t.width t.depth ≤ room
   records-room = omega (arith, held_of m room z t e)
 

@@ -2,56 +2,37 @@
 // buffer.
 #![tactic(auto)]
 
-ghost use Rattle.std.specs.Prelude.{◌≡◌, length};
+ghost use Rattle.std.specs.Prelude.{◌≡◌, ◌≤◌, length};
 ghost use Rattle.words.specs.Splice.{splice};
 ghost use Rattle.cutter.specs.List.{list_length, list_bytes};
-ghost use Rattle.cutter.specs.Call.{map_refusal, list_refusal, buffer_after};
-ghost use Rattle.listing.specs.Reply.{reply_to};
+ghost use Rattle.cutter.specs.Call.{list_asked, buffer_after};
+ghost use Rattle.kinds.specs.Rounding.{number_of};
 
 use ending::put;
-use kinds::{Mode, Rule};
+use kinds::{Mode, Refusal, Rule};
+use maps::Map;
 use rows::put_points;
 use sizes::records_length;
-use trailer::{Fields, Kind, length_of, read_last};
+use trailer::{Fields, Kind, length_of};
 
-// What a list call gives back: refusal 0 with the length of the list; or the number of a question, with length 0.
-#[derive(Clone, Copy)]
-pub struct Reply {
-    pub refusal: u8,
-    pub length: usize,
-}
-
-// The list call: the questions first, on the rounding's number as it comes; then the list, and the bytes behind it are kept. After a
-// refusal the buffer holds what it held.
-pub fn call(rule: Rule, rounding: u8, map: &[u8], buffer: &mut [u8]) -> Reply
-    ensures value { result ≡ reply_to rounding map.now (length buffer.old) }
-    ensures buffer_after { buffer.new ≡ buffer_after rule rounding map.now buffer.old }
+// The list call: the questions about the map and the buffer first; then the list, and the bytes behind it are kept. After a refusal the
+// buffer holds what it held.
+pub fn call(rule: Rule, mode: Mode, map: &[u8], buffer: &mut [u8]) -> Result<usize, Refusal>
+    ensures value { result ≡ list_asked map.now (length buffer.old) }
+    ensures buffer_after { buffer.new ≡ buffer_after rule (number_of mode) map.now buffer.old }
 {
-    let refusal = refusal(rounding, map, buffer.len());
-    if refusal != 0 {
-        return Reply { refusal, length: 0 };
-    }
-    let length = put_list(rule, Mode::of(rounding), map, buffer);
-    Reply { refusal, length }
-}
-
-// The first of question 2 and the map's questions that is answered "no", or 0; the lent buffer has room for so many bytes.
-fn refusal(rounding: u8, map: &[u8], room: usize) -> u8
-    ensures { result ≡ list_refusal rounding map.now room }
-{
-    if !Mode::is_number(rounding) {
-        return 2;
-    }
-    maps::refusal(map, room)
+    let map = Map::new(map)?;
+    map.fits(buffer.len())?;
+    Ok(put_list(rule, mode, map, buffer))
 }
 
 // The list of an accepted map, put at the front of the buffer; its length.
-fn put_list(rule: Rule, mode: Mode, map: &[u8], out: &mut [u8]) -> usize
-    requires { map_refusal map.now (length out.old) ≡ 0 }
-    ensures { (result ≡ list_length map.now) × (out.new ≡ splice 0 (list_bytes rule mode map.now) out.old) }
+fn put_list(rule: Rule, mode: Mode, map: Map<'_>, out: &mut [u8]) -> usize
+    requires { list_length map.bytes.now ≤ length out.old }
+    ensures { (result ≡ list_length map.entry.bytes.now) × (out.new ≡ splice 0 (list_bytes rule mode map.entry.bytes.now) out.old) }
 {
-    let trailer = read_last(map, Kind::Plt1);
-    put_points(rule, mode, map, out, trailer);
+    let trailer = map.trailer;
+    put_points(rule, mode, map.bytes, out, trailer);
     let end = records_length(trailer.width, trailer.depth);
     let rounding = mode.number() as u64;
     let fields = Fields {

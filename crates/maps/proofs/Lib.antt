@@ -1,3 +1,4 @@
 pub mod Questions
 pub mod Heights
 pub mod Places
+pub mod Words

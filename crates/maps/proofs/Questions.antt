@@ -22,8 +22,11 @@ use Rattle.cutter.specs.Limits.{height_most}
 use Rattle.cutter.specs.Map.{trailer_of}
 use Rattle.cutter.specs.List.{count_of, list_length}
 use Rattle.cutter.specs.Sizes.{trailer_refusal, is_whole}
-use Rattle.cutter.specs.Call.{heights_within, heights_refusal, map_refusal}
-use Rattle.cutter.specs.Accepted.{Sizes}
+use Rattle.cutter.specs.Call.{heights_within, has_room}
+use Rattle.cutter.specs.Accepted.{Sizes, Ready}
+use Rattle.std.specs.Prelude.{Ok, Err}
+use Rattle.kinds.specs.declared.Refusal.TheVariants.{Room}
+use Rattle.kinds.specs.Refusal.{asked}
 use Rattle.cutter.proofs.Accepted.{whole_long}
 use Rattle.cutter.proofs.Counts.{size-most}
 
@@ -60,55 +63,19 @@ bytes_fit w d s = omega (arith, size-most w d s)
 pub bytes_most : (w d : ℕ) → Sizes w d → 4 * (w * d) ≤ 46128
 bytes_most w d s = omega (arith, size-most w d s)
 
--- ---- questions 9 to 11
-
-module _ (m : List ℕ) (t : Fields) (room : ℕ) (e : t ≡ trailer_of m) (r : Bool) (f : r ≡ is_whole Plt1 (4 * (t.width * t.depth)) t.distance (length m)) where
-  long-is : (b : Bool) → r ≡ b → is_whole Plt1 (4 * ((trailer_of m).width * (trailer_of m).depth)) (trailer_of m).distance (length m) ≡ b
-  long-is b p = cc
-
-  pub nine : not r ≡ true → 9 ≡ heights_refusal m room
-  unfolding heights_refusal
-  nine n = ask-no _ 9 _ (long-is false (not-true r n))
-
-  module _ (n : not r ≡ false) (s : Bool) (g : s ≡ heights_within m (t.width * t.depth)) where
-    within-is : (b : Bool) → s ≡ b → heights_within m ((trailer_of m).width * (trailer_of m).depth) ≡ b
-    within-is b p = cc
-
-    pub ten : not s ≡ true → 10 ≡ heights_refusal m room
-    unfolding heights_refusal
-    ten o = ask-yes _ 9 _ 10 (long-is true (not-false r n)) (ask-no _ 10 _ (within-is false (not-true s o)))
-
-    module _ (o : not s ≡ false) (x y : ℕ) (p : x ≡ 12 * count_of t.width t.depth) (q : y ≡ length_of new_list) where
-      sum_is : x + y ≡ list_length m
-      unfolding list_length
-      sum_is = cc
-
-      pub eleven : room < x + y → 11 ≡ heights_refusal m room
-      unfolding heights_refusal
-      eleven h =
-          ask-yes _ 9 _ 11 (long-is true (not-false r n))
-          (ask-yes _ 10 _ 11 (within-is true (not-false s o)) (ask-no _ 11 _ (lt-leb (list_length m) room (omega (arith, sum_is)))))
-
-      pub none : x + y ≤ room → 0 ≡ heights_refusal m room
-      unfolding heights_refusal
-      none h =
-          ask-yes _ 9 _ 0 (long-is true (not-false r n))
-          (ask-yes _ 10 _ 0 (within-is true (not-false s o)) (ask-yes _ 11 _ 0 (le-leb (list_length m) room (omega (arith, sum_is))) refl))
-
 -- the heights are there to be read
-pub heights-there : (distance : ℕ) (m : List ℕ) (r : Bool) (n : ℕ) → r ≡ is_whole Plt1 (4 * n) distance (length m) → not r ≡ false → 4 * n ≤ length m
-heights-there distance m r n f h = omega (arith, whole_long Plt1 (4 * n) distance (length m) (sym f ∙ not-false r h))
+pub heights-there : (distance : ℕ) (m : List ℕ) (r : Bool) (n : ℕ) → r ≡ is_whole Plt1 (4 * n) distance (length m) → r ≡ true → 4 * n ≤ length m
+heights-there distance m r n f h = omega (arith, whole_long Plt1 (4 * n) distance (length m) (sym f ∙ h))
 
--- ---- all of them
+-- ---- question 11
 
-module _ (m : List ℕ) (room n : ℕ) (e : n ≡ trailer_refusal Plt1 6 m) where
-  -- a number that the trailer gets is the map's
-  pub asked : (n ≡ 0 → ⊥) → n ≡ map_refusal m room
-  unfolding map_refusal
-  asked h = then-first (trailer_refusal Plt1 6 m) (heights_refusal m room) n e h
+module _ (m : List ℕ) (t : Fields) (room x y : ℕ) (r : Ready m t) (p : x ≡ 12 * count_of t.width t.depth) (q : y ≡ length_of new_list) where
+  sum_is : x + y ≡ list_length m
+  unfolding list_length
+  sum_is = cc r.is
 
-  module _ (z : n ≡ 0) where
-    -- and where it gets none, the heights' number is
-    pub later : (x : ℕ) → x ≡ heights_refusal m room → x ≡ map_refusal m room
-    unfolding map_refusal
-    later x l = then_next (trailer_refusal Plt1 6 m) (heights_refusal m room) x (sym e ∙ z) l
+  pub eleven : {A : Type 0} (v : A) → room < x + y → Err Room ≡ asked (has_room m room) Room v
+  eleven v h = rw (lt-leb (list_length m) room (omega (arith, sum_is))) refl
+
+  pub fits : {A : Type 0} (v : A) → x + y ≤ room → Ok v ≡ asked (has_room m room) Room v
+  fits v h = rw (le-leb (list_length m) room (omega (arith, sum_is))) refl

@@ -1,51 +1,63 @@
 // Reading a map: the questions that are asked of it and of the lent buffer, and its heights.
 #![tactic(auto)]
 
-ghost use Rattle.std.specs.Prelude.{◌≡◌, ◌+◌, ◌*◌, ◌%◌, ◌≤◌, ◌<◌, length, leb, nat_abs};
+ghost use Rattle.std.specs.Prelude.{◌≡◌, ◌+◌, ◌*◌, ◌%◌, ◌≤◌, ◌<◌, length, leb, nat_abs, IfOk};
 ghost use Rattle.std.proofs.Math.IntN.{sub_ℕ};
 ghost use Rattle.words.specs.Word.{word_at};
 ghost use Rattle.words.specs.Signed.{signed, word_of};
 ghost use Rattle.cutter.specs.Limits.{height_most, difference_most};
-ghost use Rattle.cutter.specs.Map.{trailer_of};
-ghost use Rattle.cutter.specs.Call.{heights_within, heights_refusal, map_refusal};
-ghost use Rattle.cutter.specs.Accepted.{Sizes, Heights};
+ghost use Rattle.kinds.specs.Refusal.{asked};
+ghost use Rattle.kinds.specs.declared.Refusal.TheVariants.{Room};
+ghost use Rattle.cutter.specs.Call.{heights_within, has_room, map_asked};
+ghost use Rattle.cutter.specs.Accepted.{Heights, Ready};
 
-use sizes::{is_whole, records_length};
-use trailer::{Fields, Kind, length_of, read_last};
+use kinds::Refusal;
+use sizes::{is_whole, read_trailer, records_length};
+use trailer::{Fields, Kind, length_of};
 use words::word_at;
 
 // A height is from −50,000 to 50,000 micrometres.
-const HEIGHT_MOST: u64 = 50000;
+const HEIGHT_MOST: u32 = 50000;
 
-// The number of the first question that is answered "no", or 0; the lent buffer has room for so many bytes.
-pub fn refusal(map: &[u8], room: usize) -> u8
-    ensures { result ≡ map_refusal map.now room }
-{
-    let refusal = sizes::refusal(map, Kind::Plt1, 6);
-    if refusal != 0 {
-        return refusal;
-    }
-    let trailer = read_last(map, Kind::Plt1);
-    heights_refusal(map, trailer, room)
+// So that a height with this bias is not negative.
+const BIAS: u64 = 50000;
+
+// A map whose questions are answered "yes": its bytes, and the fields of its trailer.
+#[derive(Clone, Copy)]
+pub struct Map<'a> {
+    pub bytes: &'a [u8],
+    pub trailer: Fields,
+    ghost ready: { Ready bytes.now trailer },
 }
 
-// Questions 9 to 11 of a map whose sizes are in their ranges.
-fn heights_refusal(map: &[u8], trailer: Fields, room: usize) -> u8
-    requires trailer_value { trailer ≡ trailer_of map.now }
-    requires sizes { Sizes trailer.width trailer.depth }
-    ensures { result ≡ heights_refusal map.now room }
-{
-    let count = trailer.width * trailer.depth;
-    if !is_whole(Kind::Plt1, 4 * count, trailer.distance, map.len()) {
-        return 9;
+impl<'a> Map<'a> {
+    ghost use Rattle.maps.specs.Map.{trailer_in};
+
+    // Questions 5 to 10, and where each is answered "yes" the map that the bytes are.
+    pub fn new(bytes: &'a [u8]) -> Result<Map<'a>, Refusal>
+        ensures value { trailer_in result ≡ map_asked bytes.now }
+        ensures lent { IfOk result (λ m. m.bytes.now ≡ bytes.now) }
+    {
+        let trailer = read_trailer(bytes, Kind::Plt1)?;
+        let count = trailer.width * trailer.depth;
+        if !is_whole(Kind::Plt1, 4 * count, trailer.distance, bytes.len()) {
+            return Err(Refusal::MapDistance);
+        }
+        if !heights_hold(bytes, count) {
+            return Err(Refusal::Height);
+        }
+        Ok(Map { bytes, trailer })
     }
-    if !heights_hold(map, count) {
-        return 10;
+
+    // Question 11, of a lent buffer with room for so many bytes.
+    pub fn fits(self, room: usize) -> Result<(), Refusal>
+        ensures { result ≡ asked (has_room self.entry.bytes.now room) Room tt }
+    {
+        if room < records_length(self.trailer.width, self.trailer.depth) + length_of(Kind::Cut2) {
+            return Err(Refusal::Room);
+        }
+        Ok(())
     }
-    if room < records_length(trailer.width, trailer.depth) + length_of(Kind::Cut2) {
-        return 11;
-    }
-    0
 }
 
 // Whether each of the first `count` heights is in its range.
@@ -53,20 +65,18 @@ fn heights_hold(map: &[u8], count: usize) -> bool
     requires { 4 * count ≤ length map.now }
     ensures { result ≡ heights_within map.now count }
 {
+    let (heights, _) = map.as_chunks::<4>();
     let mut hold = true;
-    let mut i: usize = 0;
-    while i < count {
-        hold = hold & height_holds(map, i);
-        i += 1;
+    for h in &heights[..count] {
+        hold &= height_holds(h);
     }
     hold
 }
 
-fn height_holds(map: &[u8], i: usize) -> bool
-    requires { 4 * i + 4 ≤ length map.now }
-    ensures { result ≡ leb (nat_abs (signed (word_at map.now (4 * i)))) height_most }
+fn height_holds(bytes: &[u8; 4]) -> bool
+    ensures { result ≡ leb (nat_abs (signed (word_at bytes.now 0))) height_most }
 {
-    biased(word_at(map, 4 * i)) <= 2 * HEIGHT_MOST
+    i32::from_le_bytes(*bytes).unsigned_abs() <= HEIGHT_MOST
 }
 
 // A height's word with a bias, so that heights are from 0 to 100,000.
@@ -74,7 +84,7 @@ pub fn biased(u: u64) -> u64
     requires { u < 4294967296 }
     ensures { result ≡ (u + height_most) % 4294967296 }
 {
-    (u + HEIGHT_MOST) % 4294967296
+    (u + BIAS) % 4294967296
 }
 
 // The word of a height with the bias.
@@ -82,7 +92,7 @@ pub fn unbiased(u: u64) -> u64
     requires { u < 4294967296 }
     ensures { result ≡ word_of (sub_ℕ u height_most) }
 {
-    (u + 4294967296 - HEIGHT_MOST) % 4294967296
+    (u + 4294967296 - BIAS) % 4294967296
 }
 
 // The word of the height at place i, counted row by row.

@@ -1,10 +1,16 @@
 -- `maps::heights_hold` meets its contract: the answer so far is that of the heights passed. Assumes nothing.
-use borrow.Author.Rules.{rules}
+use Rattle.std.proofs.Common.{ℕ, ◌≡◌, ap, ◌∙◌, ◌<◌, take, length, get_or, [], leb, nat_abs, arith}
+use Rattle.words.specs.Word.{word_at}
+use Rattle.words.specs.Signed.{signed}
+use Rattle.cutter.specs.Limits.{height_most}
 use Rattle.maps.proofs.Questions.{hold-none, hold-more}
+use Rattle.maps.proofs.Words.{height-four}
 use Rattle.maps.proofs.heights_hold.Goals as goal
 
-pub loop-i-init : goal.loop-i-init
-loop-i-init c = (search rules, search hold-none)
+pub loop-h-init : goal.loop-h-init
+loop-h-init c = search hold-none
 
-pub loop-i-preserved : goal.loop-i-preserved
-loop-i-preserved c = (search rules, search hold-more)
+pub loop-h-preserved : goal.loop-h-preserved
+loop-h-preserved c =
+    hold-more c.args.map.now c.loop-h.h-index c.loop-h.hold _ c.loop-h.invariant
+    (c.height_holds-hold.ensures ∙ ap (λ (u : ℕ). leb (nat_abs (signed u)) height_most) (height-four c.args.map.now _ c.as_chunks.result.0.now c.args.count c.loop-h.h-index c.as_chunks.ensures.front c.loop-h-test.true (omega (arith, c.requires))))

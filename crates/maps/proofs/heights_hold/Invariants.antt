@@ -1,11 +1,7 @@
 -- `maps::heights_hold` meets its contract: the answer so far is that of the heights passed. Assumes nothing.
-use Prim.Native.Nat.{◌≤◌, ◌-◌}
-use mathlib.Core.Path.{◌≡◌}
+use Rattle.std.proofs.Common.{◌≡◌}
 use Rattle.cutter.specs.Call.{heights_within}
 use Rattle.maps.proofs.heights_hold.Given as goal
 
-abbrev pub invariant-loop-i : goal.invariant-loop-i
-invariant-loop-i l = (l.i ≤ l.count) × (l.hold ≡ heights_within l.map l.i)
-
-abbrev pub decreases-loop-i : goal.decreases-loop-i
-decreases-loop-i l = l.count - l.i
+abbrev pub invariant-loop-h : goal.invariant-loop-h
+invariant-loop-h l = l.hold ≡ heights_within l.map l.h-index
