@@ -1,5 +1,5 @@
 -- The questions of a list call by cases and in numbers are the same. Assumes nothing.
-use Rattle.std.proofs.Common.{◌≡◌, refl, sym, ap, ◌∙◌, ℕ, zero, suc, ◌*◌, Bool, true, false, cond, List, length, eqb, leb, ne_eqb, le-leb, ◌≤◌, arith}
+use Rattle.std.proofs.Common.{◌≡◌, refl, sym, ap, ◌∙◌, ℕ, zero, suc, ◌*◌, Bool, true, false, cond, List, length, eqb, leb, ne_eqb, le-leb, arith}
 use Rattle.std.specs.Prelude.{Result, Ok, Err}
 use Rattle.kinds.specs.declared.Refusal.{Refusal}
 use Rattle.kinds.specs.declared.Mode.{Mode}

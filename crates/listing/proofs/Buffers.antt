@@ -10,7 +10,7 @@ use Rattle.kinds.specs.Rounding.{number_of}
 use Rattle.words.specs.Splice.{splice}
 use Rattle.trailer.specs.declared.Fields.{Fields}
 use Rattle.cutter.specs.List.{list_length, list_bytes}
-use Rattle.cutter.specs.Call.{has_room, map_asked, list_asked, buffer_after}
+use Rattle.cutter.specs.Call.{has_room, map_asked, buffer_after}
 use Rattle.cutter.proofs.Asked.{buffer-put, buffer-left}
 
 -- a question says the same of any value

@@ -19,7 +19,6 @@ use Rattle.cutter.specs.Map.{trailer_of}
 use Rattle.cutter.specs.List.{count_of, record_at, all_records, list_fields, list_length, list_bytes}
 use Rattle.cutter.proofs.Lengths.{length-records, list-parts, list-length-is}
 
-
 held_of : (m : List ℕ) (room : ℕ) → list_length m ≤ room → (t : Fields) → t ≡ trailer_of m → 12 * count_of t.width t.depth + length_of new_list ≤ room
 unfolding list_length
 held_of m room h t e = rw e h

@@ -1,6 +1,6 @@
 -- What each return of the code says of the questions. Assumes nothing.
 use mathlib.Core.Path.{◌≡◌, refl, sym, ap, ◌∙◌}
-use mathlib.Core.Bool.{Bool, true, false, not, ◌&&◌}
+use mathlib.Core.Bool.{Bool, true, ◌&&◌}
 use mathlib.Core.List.{List}
 use Prim.Native.Nat.{ℕ, ◌+◌, ◌*◌, ◌%◌, ◌≤◌, ◌<◌}
 use native.Mathlib.Numerals.{add-one}
@@ -10,8 +10,7 @@ use mir.Syntax.{w64}
 use lib.Dec.{leb, lit<}
 use lib.ListN.{length}
 use lib.IntN.{nat_abs}
-use borrow.Author.Tests.{not-true, not-false, le-leb, lt-leb}
-use Rattle.kinds.proofs.Questions.{ask-yes, ask-no, then-first, then_next}
+use borrow.Author.Tests.{le-leb, lt-leb}
 use Rattle.words.specs.Word.{word_at}
 use Rattle.words.specs.Signed.{signed}
 use Rattle.words.proofs.Differences.{signed-within}
@@ -19,9 +18,8 @@ use Rattle.trailer.specs.Kinds.{length_of, new_list}
 use Rattle.trailer.specs.declared.Kind.TheVariants.{Plt1}
 use Rattle.trailer.specs.declared.Fields.{Fields}
 use Rattle.cutter.specs.Limits.{height_most}
-use Rattle.cutter.specs.Map.{trailer_of}
 use Rattle.cutter.specs.List.{count_of, list_length}
-use Rattle.cutter.specs.Sizes.{trailer_refusal, is_whole}
+use Rattle.cutter.specs.Sizes.{is_whole}
 use Rattle.cutter.specs.Call.{heights_within, has_room}
 use Rattle.cutter.specs.Accepted.{Sizes, Ready}
 use Rattle.std.specs.Prelude.{Ok, Err}

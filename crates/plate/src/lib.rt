@@ -7,7 +7,9 @@
 pub mod c;
 
 ghost use Rattle.std.specs.Prelude.{◌≡◌, length};
+ghost use Rattle.kinds.specs.Refusal.{refusal_of, answer_of, rounding_asked, then};
 ghost use Rattle.kinds.specs.declared.Rule.TheVariants.{Touching, Lifted};
+ghost use Rattle.cutter.specs.Call.{list_asked, buffer_after};
 ghost use Rattle.significand.specs.Call.{fill_refusal, slice_after};
 ghost use Rattle.ieee.specs.Format.{binary32};
 ghost use Rattle.ieee.specs.Call.{binary32_asked};
@@ -224,27 +226,42 @@ pub struct ListReply {
     pub length: usize,
 }
 
+impl ListReply {
+    fn of(answer: Result<usize, Refusal>) -> ListReply
+        ensures { result ≡ record { refusal = refusal_of answer; length = answer_of answer } }
+    {
+        match answer {
+            Ok(length) => ListReply { refusal: 0, length },
+            Err(refusal) => ListReply {
+                refusal: refusal.number(),
+                length: 0,
+            },
+        }
+    }
+}
+
 // The list call: the cutter's centres over a map, put at the front of the lent buffer; the bytes behind the list are kept. After a
 // refusal the buffer holds what it held.
 pub fn list(rounding: Rounding, map: &[u8], buffer: &mut [u8]) -> ListReply
     ensures { ListCall Touching rounding.0 map.now buffer.old result buffer.new }
 {
-    let r = listing::call(Rule::Touching, rounding.0, map, buffer);
-    ListReply {
-        refusal: r.refusal,
-        length: r.length,
-    }
+    ListReply::of(list_by(Rule::Touching, rounding.0, map, buffer))
 }
 
 // The same with each centre lifted until the ball keeps off the nine heights round its point.
 pub fn lifted_list(rounding: Rounding, map: &[u8], buffer: &mut [u8]) -> ListReply
     ensures { ListCall Lifted rounding.0 map.now buffer.old result buffer.new }
 {
-    let r = listing::call(Rule::Lifted, rounding.0, map, buffer);
-    ListReply {
-        refusal: r.refusal,
-        length: r.length,
-    }
+    ListReply::of(list_by(Rule::Lifted, rounding.0, map, buffer))
+}
+
+// Question 2, and then the call's others.
+fn list_by(rule: Rule, number: u8, map: &[u8], buffer: &mut [u8]) -> Result<usize, Refusal>
+    ensures value { result ≡ then (rounding_asked number) (λ mode. list_asked map.now (length buffer.old)) }
+    ensures buffer_after { buffer.new ≡ buffer_after rule number map.now buffer.old }
+{
+    let mode = Mode::try_from(number)?;
+    listing::call(rule, mode, map, buffer)
 }
 
 // Which rounding made a list, as its trailer states it: unknown where that has none, as in lists of document 01.

@@ -1,5 +1,5 @@
 -- `maps::height_holds` meets its contract. Assumes nothing.
-use Rattle.std.proofs.Common.{◌≡◌, ap, ◌∙◌, leb, nat_abs, arith, FitsSigned, w32, rules, ◌<◌, ℤ, to_z}
+use Rattle.std.proofs.Common.{◌≡◌, ap, ◌∙◌, leb, nat_abs, arith, FitsSigned, w32, rules, ◌<◌, to_z}
 use Rattle.std.proofs.lemmas.Int.{to_z-of_z}
 use Rattle.cutter.specs.Limits.{height_most}
 use Rattle.words.specs.Word.{word_at}

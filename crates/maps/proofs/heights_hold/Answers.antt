@@ -1,6 +1,5 @@
 -- `maps::heights_hold` meets its contract: the answer so far is that of the heights passed. Assumes nothing.
-use Rattle.std.proofs.Common.{ℕ, ◌≡◌, ap, ◌∙◌, ◌<◌, take, length, get_or, [], leb, nat_abs, arith}
-use Rattle.words.specs.Word.{word_at}
+use Rattle.std.proofs.Common.{ℕ, ap, ◌∙◌, leb, nat_abs, arith}
 use Rattle.words.specs.Signed.{signed}
 use Rattle.cutter.specs.Limits.{height_most}
 use Rattle.maps.proofs.Questions.{hold-none, hold-more}

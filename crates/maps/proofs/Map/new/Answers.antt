@@ -1,6 +1,5 @@
 -- `maps::Map::new` meets its contract: the questions that were answered "yes" say what is known of a map. Assumes nothing.
 use Rattle.std.proofs.Common.{sym, ◌∙◌, ◌*◌}
-use Rattle.trailer.specs.declared.Kind.TheVariants.{Plt1}
 use Rattle.cutter.proofs.Accepted.{heights-small}
 use Rattle.maps.proofs.Questions.{heights-there}
 use Rattle.maps.proofs.Map.new.Goals as goal
