@@ -9,10 +9,12 @@ use borrow.Author.Tests.{not-true, not-false, le-leb, leb-true, eqb-true, eq-eqb
 use lib.Dec.{leb, eqb, lit<}
 use lib.ListN.{length}
 use lib.IntN.{nat_abs}
+use Rattle.std.specs.Prelude.{Ok}
+use Rattle.kinds.specs.declared.Refusal.TheVariants as R
 use Rattle.kinds.specs.Refusal.{number_of, refusal_of}
 use Rattle.kinds.specs.Rounding.{is_rounding, mode_of}
 use Rattle.kinds.specs.declared.Rule.{Rule}
-use Rattle.kinds.proofs.Refusals.{refusal-then, refusal-asked}
+use Rattle.kinds.proofs.Refusals.{refusal-then, refusal-asked, then-yes, asked-yes}
 use Rattle.kinds.proofs.Questions.{later, yes, sure, both-are, ask-yes, ask-no, ask-most, then-later, then-none}
 use Rattle.words.specs.Word.{word_at}
 use Rattle.words.specs.Signed.{signed}
@@ -29,7 +31,7 @@ use Rattle.cutter.specs.Map.{trailer_of, distance_of, width_of, depth_of}
 use Rattle.cutter.specs.List.{count_of, list_length, list_bytes}
 use Rattle.cutter.specs.Sizes.{within, is_sized, is_stepped, trailer_refusal, trailer_asked, is_whole}
 use Rattle.cutter.specs.Call.{heights_within, has_room, heights_refusal, map_refusal, list_refusal, list_answer, buffer_after}
-use Rattle.cutter.specs.Accepted.{Sizes, Steps, Trailed, Accepted, Ready}
+use Rattle.cutter.specs.Accepted.{Sizes, Steps, Trailed, TrailerHeld, Accepted, Ready}
 use Rattle.cutter.proofs.Counts.{count_most}
 
 -- ---- "yes" taken apart
@@ -116,6 +118,21 @@ pub trailer-number : (k : Kind) (m : List ℕ) → refusal_of (trailer_asked k m
 unfolding trailer_refusal
 trailer-number k m =
     simp (refusal-then, refusal-asked)
+
+-- and where none of them refuses, the trailer is as it was read
+pub trailer-told : (k : Kind) (m : List ℕ) (t : Fields) → trailer_asked k m ≡ Ok t → TrailerHeld k m t
+trailer-told k m t h =
+    let f : Fields = last_fields k m in
+    let a5 = then-yes (leb bytes_least (length m)) R.Short m _ t h in
+    let a6 = then-yes (ends_in k m) (letters_refusal k) f _ t a5.1 in
+    let a7 = then-yes (is_sized f.width f.depth) R.Sides f _ t a6.1 in
+    let a8 = asked-yes (is_stepped f.step f.radius) R.Lengths f t a7.1 in
+    record {
+      is = sym a8.1;
+      fits = ends-fit k m a6.0;
+      sizes = rw (sym a8.1) (sizes-are f.width f.depth a7.0);
+      steps = rw (sym a8.1) (steps-are f.step f.radius a8.0);
+    }
 
 -- they give no number above 8 and their own
 trailer-most : (k : Kind) (number : ℕ) (m : List ℕ) (n : ℕ) → 8 ≤ n → number ≤ n → trailer_refusal k number m ≤ n

@@ -77,6 +77,22 @@ unfolding then_ask
 then-none zero b e = (refl, e)
 then-none (suc a) b e = absurd (let z : suc a ≡ 0 = e in omega arith)
 
+-- no number leaves the later group's
+pub then_nothing : (c : ℕ) → then_ask 0 c ≡ c
+unfolding then_ask
+then_nothing c = refl
+
+-- a group stands behind another where its questions do
+pub then_assoc : (a b c : ℕ) → then_ask (then_ask a b) c ≡ then_ask a (then_ask b c)
+unfolding then_ask
+then_assoc zero b c = refl
+then_assoc (suc a) b c = refl
+
+pub then_asked : (t : Bool) (n rest c : ℕ) → then_ask (ask t (suc n) rest) c ≡ ask t (suc n) (then_ask rest c)
+unfolding ask then_ask
+then_asked true n rest c = refl
+then_asked false n rest c = refl
+
 -- ---- the case of a number, by the tests that found it
 
 pub op-first : (n : ℕ) → n ≡ 1 → Reciprocal ≡ op_of n
@@ -115,3 +131,10 @@ number-back (suc zero) h = refl
 number-back (suc (suc zero)) h = refl
 number-back (suc (suc (suc zero))) h = refl
 number-back (suc (suc (suc (suc n)))) h = absurd (omega arith)
+
+-- and a case that of its number
+pub mode-back : (mode : Mode) → mode_of (number_of mode) ≡ mode
+mode-back Nearest = refl
+mode-back Up = refl
+mode-back Down = refl
+mode-back TowardZero = refl

@@ -292,27 +292,38 @@ pub struct RecordReply {
 pub fn record(list: &[u8], index: usize) -> RecordReply
     ensures { result ≡ record_call list.now index }
 {
-    let r = reader::call(list, index);
-    RecordReply {
-        refusal: r.refusal,
-        rounding: list_rounding(r.stated, r.rounding),
-        width: r.width,
-        depth: r.depth,
-        step: r.step,
-        radius: r.radius,
-        x: r.x,
-        y: r.y,
-        z: r.z,
+    match reader::call(list, index) {
+        Ok(r) => RecordReply {
+            refusal: 0,
+            rounding: list_rounding(r.rounding),
+            width: r.width,
+            depth: r.depth,
+            step: r.step,
+            radius: r.radius,
+            x: r.x,
+            y: r.y,
+            z: r.z,
+        },
+        Err(refusal) => RecordReply {
+            refusal: refusal.number(),
+            rounding: ListRounding::Unknown,
+            width: 0,
+            depth: 0,
+            step: 0,
+            radius: 0,
+            x: 0,
+            y: 0,
+            z: 0,
+        },
     }
 }
 
 // The rounding of a list whose trailer states one, or none.
-fn list_rounding(stated: bool, number: u8) -> ListRounding
-    ensures { result ≡ list_rounding stated number }
+fn list_rounding(rounding: Option<Mode>) -> ListRounding
+    ensures { result ≡ list_rounding rounding }
 {
-    if stated {
-        ListRounding::Known(Rounding(number))
-    } else {
-        ListRounding::Unknown
+    match rounding {
+        Some(mode) => ListRounding::Known(Rounding(mode.number())),
+        None => ListRounding::Unknown,
     }
 }

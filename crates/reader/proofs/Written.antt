@@ -7,9 +7,12 @@ use Prim.Native.Nat.{ℕ, ◌+◌, ◌*◌, ◌≤◌, ◌<◌}
 use native.Mathlib.Omega.{arith}
 use lib.ListN.{length}
 use borrow.Author.Tests.{le-leb, lt-ltb, le-ltb}
+use Rattle.std.specs.Prelude.{Some, Ok}
+use Rattle.std.specs.Bool.{then_some}
+use Rattle.kinds.specs.Rounding.{mode_of}
 use Rattle.kinds.specs.declared.Mode.{Mode}
 use Rattle.kinds.specs.declared.Rule.{Rule}
-use Rattle.kinds.proofs.Questions.{ask-yes, ask-no, then_next, number-most}
+use Rattle.kinds.proofs.Questions.{ask-yes, ask-no, then_next, number-most, mode-back}
 use Rattle.trailer.specs.Kinds.{length_of, is_wide, is_rounded}
 use Rattle.trailer.specs.Bytes.{last_fields, ends_in, list_kind, rounding_end, InRange}
 use Rattle.trailer.specs.declared.Kind.{Kind}
@@ -25,6 +28,8 @@ use Rattle.cutter.proofs.Counts.{count_most}
 use Rattle.cutter.proofs.Lengths.{list-parts, length-of-list}
 use Rattle.cutter.proofs.Entries.{list-entry}
 use Rattle.reader.specs.Reader.{list_trailer, records_of, reader_refusal, record_refusal}
+use Rattle.reader.specs.Record.{record_asked}
+use Rattle.reader.proofs.Questions.{record-accepted}
 
 -- a list whose trailer is of a kind that is found to be what it is
 module _ (k : Kind) (rule : Rule) (mode : Mode) (m : List ℕ) (found : list_kind (list_of k rule mode m) ≡ k) {room : ℕ} (a : Accepted m room) where
@@ -39,6 +44,11 @@ module _ (k : Kind) (rule : Rule) (mode : Mode) (m : List ℕ) (found : list_kin
   stated-small : (r : Bool) → stated_rounding r mode < rounding_end r
   stated-small true = omega (arith, number-most mode)
   stated-small false = omega arith
+
+  -- and so it comes back, where the kind states one
+  stated-back : (r : Bool) → then_some r (mode_of (stated_rounding r mode)) ≡ then_some r mode
+  stated-back true = ap Some (mode-back mode)
+  stated-back false = refl
 
   in-range : InRange k (list_fields k mode m)
   in-range =
@@ -97,3 +107,20 @@ module _ (k : Kind) (rule : Rule) (mode : Mode) (m : List ℕ) (found : list_kin
       → entry_at list n j ≡ coordinate (centre_at rule mode m n) j
   written_entry n j h l =
       subst (λ (b : List ℕ). entry_at b n j ≡ coordinate (centre_at rule mode m n) j) (append-nil list) (list-entry k rule mode m [] n j h l a)
+
+  -- so the record call gives the map's sizes, the centre and the rounding that the kind states
+  pub written_record : (n : ℕ) → n < count_of (width_of m) (depth_of m)
+      → record_asked list n
+      ≡ Ok (record {
+        rounding = then_some (is_rounded k) mode;
+        width = width_of m;
+        depth = depth_of m;
+        step = step_of m;
+        radius = radius_of m;
+        x = (centre_at rule mode m n).x;
+        y = (centre_at rule mode m n).y;
+        z = (centre_at rule mode m n).z;
+      })
+  written_record n h =
+      record-accepted list n (written_below n h)
+      ∙ rw (written-trailer, found, stated-back (is_rounded k), written_entry n 0 h (omega arith), written_entry n 1 h (omega arith), written_entry n 2 h (omega arith)) refl

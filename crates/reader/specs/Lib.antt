@@ -1,3 +1,3 @@
 pub mod Reader
-pub mod Reply
+pub mod Record
 pub mod Sound

@@ -6,7 +6,10 @@ use mathlib.Core.List.{List}
 use Prim.Native.Nat.{ℕ, ◌≤◌, ◌<◌}
 use native.Mathlib.Omega.{arith}
 use lib.ListN.{length, take}
+use Rattle.std.specs.Prelude.{Err}
+use Rattle.std.specs.Bool.{then_some}
 use Rattle.kinds.specs.Rounding.{mode_of, number_of}
+use Rattle.kinds.specs.declared.Refusal.TheVariants.{Index}
 use Rattle.kinds.specs.declared.Rule.{Rule}
 use Rattle.kinds.specs.declared.Rule.TheVariants.{Touching}
 use Rattle.kinds.proofs.Questions.{number-back}
@@ -23,8 +26,8 @@ use Rattle.cutter.proofs.Accepted.{accepted-of, map-asked, rounding-asked}
 use Rattle.cutter.proofs.Lengths.{list-parts}
 use Rattle.cutter.proofs.Entries.{list_held}
 use Rattle.reader.specs.Reader.{record_refusal}
-use Rattle.reader.specs.Reply.{refused_reply, reply_to}
-use Rattle.reader.proofs.Written.{written-trailer, written_below, written-beyond, written_entry}
+use Rattle.reader.proofs.Written.{written_record, written-beyond}
+use Rattle.reader.proofs.Questions.{record-accepted, record-refused}
 use Rattle.plate.specs.declared.ListReply.{ListReply}
 use Rattle.plate.specs.declared.ListRounding.{ListRounding}
 use Rattle.plate.specs.declared.ListRounding.TheVariants.{Unknown, Known}
@@ -37,27 +40,16 @@ use Rattle.theorems.specs.ReadBack.{centre_read, ReadBack}
 module _ (k : Kind) (rule : Rule) (rounding : ℕ) (m : List ℕ) (found : list_kind (list_of k rule (mode_of rounding) m) ≡ k) {room : ℕ} (a : Accepted m room) where
   -- what its trailer tells of the rounding
   abbrev told : ListRounding
-  told = list_rounding (is_rounded k) (stated_rounding (is_rounded k) (mode_of rounding))
+  told = list_rounding (then_some (is_rounded k) (mode_of rounding))
 
   abbrev list : List ℕ
   list = list_of k rule (mode_of rounding) m
 
   read-each : (n : ℕ) → n < count_of (width_of m) (depth_of m) → record_call list n ≡ centre_read rule told rounding m n
-  unfolding reply_to
-  read-each n h =
-      let mode = mode_of rounding in
-      rw (
-        written_below k rule mode m found a n h,
-        written-trailer k rule mode m found a,
-        found,
-        written_entry k rule mode m found a n 0 h (omega arith),
-        written_entry k rule mode m found a n 1 h (omega arith),
-        written_entry k rule mode m found a n 2 h (omega arith),
-      ) refl
+  read-each n h = ap record_of (written_record k rule (mode_of rounding) m found a n h)
 
-  read-beyond : (n : ℕ) → count_of (width_of m) (depth_of m) ≤ n → record_call list n ≡ record_of (refused_reply 14)
-  unfolding reply_to
-  read-beyond n h = rw (written-beyond k rule (mode_of rounding) m found a n h) refl
+  read-beyond : (n : ℕ) → count_of (width_of m) (depth_of m) ≤ n → record_call list n ≡ record_of (Err Index)
+  read-beyond n h = ap record_of (record-refused list n Index (written-beyond k rule (mode_of rounding) m found a n h))
 
   read_all : ReadBack rule told rounding m list
   read_all = record { each = read-each; beyond = read-beyond }
@@ -110,5 +102,4 @@ pub cut1-read : (b : List ℕ) (index : ℕ) → ends_in Cut1 b ≡ true → rec
       y = entry_at b index 1;
       z = entry_at b index 2;
     }
-unfolding reply_to
-cut1-read b index e z = rw (z, sym (kind-first b true (sym e) refl)) refl
+cut1-read b index e z = ap record_of (record-accepted b index z) ∙ rw (sym (kind-first b true (sym e) refl)) refl

@@ -1,10 +1,10 @@
 -- A list of a map, read back by the record call. Assumes nothing.
-use Rattle.std.specs.Prelude.{◌≡◌, List, ℕ, ◌≤◌, ◌<◌}
+use Rattle.std.specs.Prelude.{◌≡◌, List, ℕ, ◌≤◌, ◌<◌, Err}
 use Rattle.kinds.specs.Rounding.{mode_of}
 use Rattle.kinds.specs.declared.Rule.{Rule}
 use Rattle.cutter.specs.Map.{width_of, depth_of, step_of, radius_of}
 use Rattle.cutter.specs.List.{count_of, centre_at}
-use Rattle.reader.specs.Reply.{refused_reply}
+use Rattle.kinds.specs.declared.Refusal.TheVariants.{Index}
 use Rattle.plate.specs.declared.ListRounding.{ListRounding}
 use Rattle.plate.specs.declared.RecordReply.{RecordReply}
 use Rattle.plate.specs.Record.{record_of, record_call}
@@ -27,4 +27,4 @@ centre_read rule told rounding m n =
 -- the list tells that of its rounding, and holds the map's sizes and its centres by the rule and in the rounding, one record an inner point, and no other
 pub record ReadBack (rule : Rule) (told : ListRounding) (rounding : ℕ) (m list : List ℕ) : Type 0 where
   pub each : (n : ℕ) → n < count_of (width_of m) (depth_of m) → record_call list n ≡ centre_read rule told rounding m n
-  pub beyond : (n : ℕ) → count_of (width_of m) (depth_of m) ≤ n → record_call list n ≡ record_of (refused_reply 14)
+  pub beyond : (n : ℕ) → count_of (width_of m) (depth_of m) ≤ n → record_call list n ≡ record_of (Err Index)
