@@ -4,7 +4,6 @@ use mathlib.Core.Path.{◌≡◌, refl, sym, ap, subst, ◌∙◌}
 use mathlib.Core.Bool.{true, false}
 use mathlib.Core.List.{List}
 use Prim.Native.Nat.{ℕ, ◌≤◌, ◌<◌}
-use native.Mathlib.Omega.{arith}
 use lib.ListN.{length, take}
 use Rattle.std.specs.Prelude.{Err}
 use Rattle.std.specs.Bool.{then_some}
@@ -19,7 +18,7 @@ use Rattle.trailer.specs.declared.Kind.{Kind}
 use Rattle.trailer.specs.declared.Kind.TheVariants.{Cut1, Cut2}
 use Rattle.trailer.proofs.Seeking.{kind-first, cut1-found, cut2-found, cut2-not-cut1}
 use Rattle.cutter.specs.Map.{width_of, depth_of}
-use Rattle.cutter.specs.List.{count_of, all_records, stated_rounding, list_fields, list_of, list_bytes, entry_at}
+use Rattle.cutter.specs.List.{count_of, all_records, list_fields, list_of, list_bytes, entry_at}
 use Rattle.cutter.specs.Call.{list_refusal}
 use Rattle.cutter.specs.Accepted.{Accepted}
 use Rattle.cutter.proofs.Accepted.{accepted-of, map-asked, rounding-asked}
