@@ -8,10 +8,12 @@ use lib.Dec.{lit≤}
 use Rattle.kinds.specs.declared.Op.{Op}
 use Rattle.kinds.specs.declared.Op.TheVariants.{Reciprocal, Root, InverseRoot}
 use Rattle.kinds.specs.Operation.{is_reciprocal}
+use Rattle.kinds.specs.declared.Refusal.{Refusal}
+use Rattle.std.specs.Prelude.{Ok, Err}
 use Rattle.significand.specs.Width.{k64, t64}
-use Rattle.significand.specs.Steps.{raw_of}
 use Rattle.significand.specs.Distance.{Near, bound_of}
-use Rattle.significand.specs.Call.{is_entry}
+use Rattle.significand.specs.Call.{is_entry, entry_asked}
+use Rattle.significand.proofs.Asked.{entry-held, entry-answer, entry-broken}
 use Rattle.significand.proofs.Accepted.{operand-near}
 use Rattle.ieee.specs.Format.{binary64, magnitude_of}
 use Rattle.ieee.specs.Normalized.{significand_of, exponent_parity}
@@ -19,8 +21,6 @@ use Rattle.ieee.proofs.Normalized.{significand-is, parity-is}
 use Rattle.pattern.specs.Operand.{Scaling}
 use Rattle.pattern.specs.declared.Width.TheVariants.{Binary64}
 use Rattle.pattern.specs.declared.operand.Scaled.{Scaled}
-use Rattle.raw64.specs.declared.Tried.{Tried}
-use Rattle.raw64.specs.Tried.{tried_of}
 use Rattle.neighbour.specs.Scales.{ScalesOf}
 use Rattle.neighbour.specs.Neighbour.{BelowResult}
 use Rattle.neighbour.specs.declared.scales.Scales.{Scales}
@@ -53,24 +53,25 @@ module _ (t : ℕ) (s : Scaled) (h : Scaling Binary64 (magnitude_of binary64 t) 
   entry-same InverseRoot sc = same InverseRoot refl sc
 
 module _ (op : Op) (t : ℕ) (s : Scaled) (h : Scaling Binary64 (magnitude_of binary64 t) s) (k : Scales) (sc : ScalesOf binary64 op s.exponent k)
-    (tables : List ℕ) (g : Tried) (eg : g ≡ tried_of op s.significand k.parity tables) where
-  -- the entry that the raw unit tests
-  tested : g.holds ≡ is_entry k64 t64 op s.significand k.parity tables
-  unfolding tried_of
-  tested = rw eg
+    (tables : List ℕ) where
+  -- where the entry is M, the raw answer is near
+  pub near_of : (g : ℕ) → Ok g ≡ entry_asked k64 t64 op s.significand k.parity tables → Near op k64 t64 s.significand k.parity (bound_of op) g
+  near_of g e =
+      operand-near k64 t64 (omega arith) op s.significand k.parity g (operand-of Binary64 t s h op k sc)
+      (entry-answer k64 t64 op s.significand k.parity tables g e)
 
-  -- where it is M, the answer is the raw one,
-  answer-is : g.holds ≡ true → g.answer ≡ raw_of k64 t64 op s.significand k.parity
-  unfolding tried_of
-  answer-is e = rw (eg, sym tested ∙ e)
+  pub not_found : (e : Refusal) (n : Neighbour) → Err e ≡ entry_asked k64 t64 op s.significand k.parity tables
+      → FoundFor op t tables (record { holds = false; neighbour = n })
+  not_found e n r =
+      record {
+        held = sym (entry-broken k64 t64 op s.significand k.parity tables e r) ∙ entry-same t s h k tables op sc;
+        below = λ z. absurd (true≢false (sym z));
+      }
 
-  -- which is near
-  pub near_of : g.holds ≡ true → Near op k64 t64 s.significand k.parity (bound_of op) g.answer
-  near_of e = operand-near k64 t64 (omega arith) op s.significand k.parity g.answer (operand-of Binary64 t s h op k sc) (answer-is e)
-
-  pub not_found : (n : Neighbour) → g.holds ≡ false → FoundFor op t tables (record { holds = false; neighbour = n })
-  not_found n e =
-      record { held = sym e ∙ tested ∙ entry-same t s h k tables op sc; below = λ z. absurd (true≢false (sym z)) }
-
-  pub found : (n : Neighbour) → g.holds ≡ true → BelowResult binary64 op t n → FoundFor op t tables (record { holds = true; neighbour = n })
-  found n e below = record { held = sym e ∙ tested ∙ entry-same t s h k tables op sc; below = λ z. below }
+  pub found : (g : ℕ) (n : Neighbour) → Ok g ≡ entry_asked k64 t64 op s.significand k.parity tables → BelowResult binary64 op t n
+      → FoundFor op t tables (record { holds = true; neighbour = n })
+  found g n e below =
+      record {
+        held = sym (entry-held k64 t64 op s.significand k.parity tables g e) ∙ entry-same t s h k tables op sc;
+        below = λ z. below;
+      }

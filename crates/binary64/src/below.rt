@@ -29,14 +29,16 @@ pub fn below(op: Op, x: Parts, tables: &[u64]) -> Found
     let s = scale(Width::Binary64, x);
     let y = s.significand;
     let k = scales_of(Width::Binary64, op, s.exponent);
-    let g = raw64::answer(op, y, k.parity, tables);
-    if !g.holds {
-        return Found {
-            holds: false,
-            neighbour: none(),
-        };
-    }
-    let q = floor_of(op, y, k.parity, g.answer);
+    let g = match raw64::answer(op, y, k.parity, tables) {
+        Ok(g) => g,
+        Err(_) => {
+            return Found {
+                holds: false,
+                neighbour: none(),
+            };
+        }
+    };
+    let q = floor_of(op, y, k.parity, g);
     Found {
         holds: true,
         neighbour: lower(Width::Binary64, q.quotient, q.more, k.scale),

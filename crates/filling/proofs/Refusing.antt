@@ -7,7 +7,7 @@ use Rattle.significand.specs.Call.{fill_refusal, slice_after}
 
 module _ (before : List ℕ) where
   module _ (h : length before ≡ tables_length k64 → ⊥) where
-    pub told : 15 ≡ fill_refusal (length before)
+    told : 15 ≡ fill_refusal (length before)
     unfolding fill_refusal
     told = ask-no _ 15 0 (ne_eqb (length before) (tables_length k64) h)
 
@@ -16,7 +16,7 @@ module _ (before : List ℕ) where
     kept = rw (← told)
 
   module _ (e : length before ≡ tables_length k64) where
-    pub none : 0 ≡ fill_refusal (length before)
+    none : 0 ≡ fill_refusal (length before)
     unfolding fill_refusal
     none = ask-yes _ 15 0 0 (eq-eqb (length before) (tables_length k64) e) refl
 

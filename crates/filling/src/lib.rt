@@ -6,11 +6,10 @@ ghost use Rattle.std.specs.Prelude.{◌≡◌, ◌^◌, ◌<◌, ◌≤◌, leng
 ghost use Rattle.significand.specs.Width.{k64};
 ghost use Rattle.significand.specs.Steps.{factor_of, multiplier_of};
 ghost use Rattle.significand.specs.Tables.{tables, tables_length};
-ghost use Rattle.significand.specs.Call.{fill_refusal, slice_after};
+ghost use Rattle.significand.specs.Call.{filling_asked, slice_after};
 
 use entries::{MOST, at_most};
-use kinds::Op;
-use std::num::{wrapping_add_u64, wrapping_sub_u64};
+use kinds::{Op, Refusal};
 
 // The entries of one table, and of all four.
 const TABLE: usize = 32768;
@@ -26,26 +25,24 @@ const FIRST: usize = 32768;
 // √2 × 2^63.
 const ROOT_OF_TWO: u64 = 0xB504_F333_F9DE_6484;
 
-// The filling call: the number of the one question that it asks, 15, and then the slice holds what it held; or 0.
-pub fn call(table: &mut [u64]) -> u8
-    ensures value { result ≡ fill_refusal (length table.old) }
+// The filling call and its one question, 15; after a "no" the slice holds what it held.
+pub fn call(table: &mut [u64]) -> Result<(), Refusal>
+    ensures value { result ≡ filling_asked (length table.old) }
     ensures table_after { table.new ≡ slice_after table.old }
 {
     if table.len() != LENGTH {
-        return 15;
+        return Err(Refusal::Tables);
     }
     fill(table);
-    0
+    Ok(())
 }
 
 fn fill(table: &mut [u64])
     requires { length table.old ≡ tables_length k64 }
     ensures { table.new ≡ tables k64 }
 {
-    let mut n = 0;
-    while n < LENGTH {
+    for n in 0..LENGTH {
         put_entry(table, n);
-        n += 1;
     }
 }
 
@@ -74,14 +71,8 @@ fn settle(op: Op, near: u64, r: u64, p: u64) -> u64
     requires { (2 ^ 15 ≤ r) × (r ≤ 2 ^ 16) × (p ≤ 1) }
     ensures { result ≡ multiplier_of k64 op r p }
 {
-    let below = down(op, least(near, MOST), r, p);
+    let below = down(op, near.min(MOST), r, p);
     up(op, below, r, p)
-}
-
-fn least(a: u64, b: u64) -> u64
-    ensures { result ≤ b }
-{
-    if a <= b { a } else { b }
 }
 
 // Down to a number that is at most M.
@@ -137,7 +128,7 @@ fn newton(r: u64, x: u64) -> u64 {
     let square = x as u128 * x as u128;
     let v = (square.wrapping_mul(r as u128) / WORD) as u64;
     if v < 0x8000_0000_0000_0000 {
-        return wrapping_sub_u64(x, (x as u128 * v as u128 >> 73) as u64);
+        return x.wrapping_sub((x as u128 * v as u128 >> 73) as u64);
     }
-    wrapping_add_u64(x, (x as u128 * wrapping_sub_u64(0, v) as u128 >> 73) as u64)
+    x.wrapping_add((x as u128 * v.wrapping_neg() as u128 >> 73) as u64)
 }

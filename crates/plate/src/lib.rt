@@ -7,10 +7,10 @@
 pub mod c;
 
 ghost use Rattle.std.specs.Prelude.{◌≡◌, length};
-ghost use Rattle.kinds.specs.Refusal.{refusal_of, answer_of, rounding_asked, then};
+ghost use Rattle.kinds.specs.Refusal.{refusal_of, answer_of, operation_asked, rounding_asked, then};
 ghost use Rattle.kinds.specs.declared.Rule.TheVariants.{Touching, Lifted};
 ghost use Rattle.cutter.specs.Call.{list_asked, buffer_after};
-ghost use Rattle.significand.specs.Call.{fill_refusal, slice_after};
+ghost use Rattle.significand.specs.Call.{fill_refusal, slice_after, raw_asked, raw64_asked};
 ghost use Rattle.ieee.specs.Format.{binary32};
 ghost use Rattle.ieee.specs.Call.{binary32_asked};
 ghost use Rattle.pattern.specs.Answer.{Replied};
@@ -109,11 +109,21 @@ pub struct RawReply {
 pub fn raw(operation: Operation, significand: u32, parity: u8) -> RawReply
     ensures { result ≡ raw_call operation.0 significand parity }
 {
-    let r = raw::call(operation.0, significand, parity);
-    RawReply {
-        refusal: r.refusal,
-        answer: r.answer,
+    match asked(operation.0, significand, parity) {
+        Ok(answer) => RawReply { refusal: 0, answer },
+        Err(refusal) => RawReply {
+            refusal: refusal.number(),
+            answer: 0,
+        },
     }
+}
+
+#[inline(always)]
+fn asked(operation: u8, significand: u32, parity: u8) -> Result<u32, Refusal>
+    ensures { result ≡ then (operation_asked operation) (λ op. raw_asked op significand parity) }
+{
+    let op = Op::try_from(operation)?;
+    raw::call(op, significand, parity)
 }
 
 // How many numbers the tables are.
@@ -125,7 +135,10 @@ pub fn fill_tables(tables: &mut [u64]) -> u8
     ensures value { result ≡ fill_refusal (length tables.old) }
     ensures tables_after { tables.new ≡ slice_after tables.old }
 {
-    filling::call(tables)
+    match filling::call(tables) {
+        Ok(_) => 0,
+        Err(refusal) => refusal.number(),
+    }
 }
 
 // What the raw call for significands of 53 bits gives back: refusal 0 with the answer g, which stands for g / 2^60; or the number of a
@@ -142,11 +155,21 @@ pub struct Raw64Reply {
 pub fn raw64(operation: Operation, significand: u64, parity: u8, tables: &[u64]) -> Raw64Reply
     ensures { result ≡ raw64_call operation.0 significand parity tables.now }
 {
-    let r = raw64::call(operation.0, significand, parity, tables);
-    Raw64Reply {
-        refusal: r.refusal,
-        answer: r.answer,
+    match asked64(operation.0, significand, parity, tables) {
+        Ok(answer) => Raw64Reply { refusal: 0, answer },
+        Err(refusal) => Raw64Reply {
+            refusal: refusal.number(),
+            answer: 0,
+        },
     }
+}
+
+#[inline(always)]
+fn asked64(operation: u8, significand: u64, parity: u8, tables: &[u64]) -> Result<u64, Refusal>
+    ensures { result ≡ then (operation_asked operation) (λ op. raw64_asked op significand parity tables.now) }
+{
+    let op = Op::try_from(operation)?;
+    raw64::call(op, significand, parity, tables)
 }
 
 // What the binary32 call gives back: refusal 0 with the answer's bits and the new status; or the number of a question, with bits 0 and

@@ -2,15 +2,14 @@
 // The functions follow the numbered steps; an answer g stands for g / 2^28.
 #![tactic(auto)]
 
-ghost use Rattle.std.specs.Prelude.{◌≡◌, ◌*◌, ◌/◌, ◌≤◌, ◌<◌, ◌^◌, eqb};
+ghost use Rattle.std.specs.Prelude.{◌≡◌, ◌*◌, ◌/◌, ◌≤◌, ◌<◌, ◌^◌};
 ghost use Rattle.kinds.specs.declared.Op.TheVariants.{Reciprocal, Root, InverseRoot};
 ghost use Rattle.significand.specs.Width.{k32, t32, Significand, Operand};
 ghost use Rattle.significand.specs.Steps.{raw_of};
-ghost use Rattle.significand.specs.Call.{raw_refusal};
+ghost use Rattle.significand.specs.Call.{is_significand, is_parity, raw_asked};
 ghost use Rattle.tables.specs.Row.{index_at, parity_at};
-ghost use Rattle.raw.specs.Reply.{reply_to};
 
-use kinds::{Op, ask};
+use kinds::{Op, Refusal};
 use series::{inverse_root_series, reciprocal_series, reduce, root_series};
 
 // The least number of 24 bits, and the least that has more.
@@ -18,62 +17,36 @@ const LEAST_SIGNIFICAND: u32 = 8388608;
 
 const SIGNIFICAND_LIMIT: u32 = 16777216;
 
-// What the raw call gives back: refusal 0 with the answer; or the number of a question, with answer 0.
-#[derive(Clone, Copy)]
-pub struct Reply {
-    pub refusal: u8,
-    pub answer: u32,
+// The raw call: questions 3 and 4, and the answer behind them.
+#[inline(always)]
+pub fn call(op: Op, significand: u32, parity: u8) -> Result<u32, Refusal>
+    ensures { result ≡ raw_asked op significand parity }
+{
+    if !is_significand(significand) {
+        return Err(Refusal::Significand);
+    }
+    if !is_parity(op, parity) {
+        return Err(Refusal::Parity);
+    }
+    Ok(answer(op, significand, parity))
 }
 
-// The raw call. Whether it is accepted is told by branches, and the number of a refusal is worked out only behind them.
-// By `answer` in place of its own cases each call would be a nanosecond longer: that function is too large to be inlined twice.
-pub fn call(operation: u8, significand: u32, parity: u8) -> Reply
-    ensures { result ≡ reply_to operation significand parity }
+// Question 3.
+fn is_significand(significand: u32) -> bool
+    ensures { result ≡ is_significand k32 t32 significand }
 {
-    if accepts(operation, significand, parity) {
-        let answer = match Op::of(operation) {
-            Op::Reciprocal => reciprocal(significand),
-            Op::Root => root(significand, parity as u32),
-            Op::InverseRoot => inverse_root(significand, parity as u32),
-        };
-        return Reply { refusal: 0, answer };
-    }
-    Reply {
-        refusal: refusal(operation, significand, parity),
-        answer: 0,
-    }
+    (LEAST_SIGNIFICAND <= significand) & (significand < SIGNIFICAND_LIMIT)
 }
 
-// Whether questions 1, 3 and 4 are all answered "yes". Operations 2 and 3 have an arm each: a range is not compiled to branches.
-fn accepts(operation: u8, significand: u32, parity: u8) -> bool
-    ensures { result ≡ eqb (raw_refusal operation significand parity) 0 }
+// Question 4.
+pub fn is_parity(op: Op, parity: u8) -> bool
+    ensures { result ≡ is_parity op parity }
 {
-    if (LEAST_SIGNIFICAND <= significand) & (significand < SIGNIFICAND_LIMIT) {
-        match operation {
-            1 => parity == 0,
-            2 => parity <= 1,
-            3 => parity <= 1,
-            _ => false,
-        }
-    } else {
-        false
-    }
-}
-
-// The first of questions 1, 3 and 4 that is answered "no", or 0. Each is worked out whether or not an earlier one is answered "no".
-pub fn refusal(operation: u8, significand: u32, parity: u8) -> u8
-    ensures { result ≡ raw_refusal operation significand parity }
-{
-    let known = Op::is_number(operation);
-    let sized = (LEAST_SIGNIFICAND <= significand) & (significand < SIGNIFICAND_LIMIT);
-    let even = parity == 0;
-    let odd = (parity == 1) & !Op::of(operation).is_reciprocal();
-    let fourth = ask(even | odd, 4, 0);
-    let third = ask(sized, 3, fourth);
-    ask(known, 1, third)
+    (parity == 0) | ((parity == 1) & !op.is_reciprocal())
 }
 
 // The answer of an operation.
+#[inline(always)]
 pub fn answer(op: Op, significand: u32, parity: u8) -> u32
     requires { Operand k32 t32 op significand parity }
     ensures { result ≡ raw_of k32 t32 op significand parity }

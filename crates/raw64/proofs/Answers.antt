@@ -1,38 +1,24 @@
--- The raw calls' questions and answers at k = 15, from the entry of the lent tables on. Assumes nothing.
+-- The raw answers at k = 15, from the entry of the lent tables on. Assumes nothing.
 use mathlib.Core.Path.{◌≡◌, refl, sym, ◌∙◌}
-use mathlib.Core.Bool.{Bool, true, false, not, ◌&&◌, ◌||◌, true≢false}
+use mathlib.Core.Bool.{Bool, true, false, ◌||◌, true≢false}
 use mathlib.Core.List.{List}
 use Prim.Native.Nat.{ℕ, ◌+◌, ◌*◌, ◌-◌, ◌/◌, ◌^◌, ◌≤◌, ◌<◌}
 use native.Mathlib.Omega.{arith}
-use lib.Dec.{T, eqb, leb, ltb, eqb→eq}
+use lib.Dec.{T, eqb, eqb→eq}
 use lib.ListN.{get_or}
 use Rattle.kinds.specs.declared.Op.{Op}
 use Rattle.kinds.specs.declared.Op.TheVariants.{Reciprocal, Root, InverseRoot}
-use Rattle.kinds.specs.Operation.{is_operation, op_of, is_reciprocal}
-use Rattle.kinds.specs.Question.{ask}
+use Rattle.kinds.specs.Operation.{is_reciprocal}
+use Rattle.kinds.specs.declared.Refusal.TheVariants.{Entry}
+use Rattle.std.specs.Prelude.{Ok, Err}
 use Rattle.significand.specs.Width.{k64, t64, Significand, Operand}
 use Rattle.significand.specs.Steps.{index_of, factor_of, series_of, multiplier_of, raw_of}
 use Rattle.significand.specs.Tables.{tables_before, tables_length, entry_place}
-use Rattle.significand.specs.Call.{is_lent, is_entry, raw64_door}
+use Rattle.significand.specs.Call.{is_lent, is_entry, entry_asked}
 use Rattle.significand.proofs.Reduction.{index-least, index_below}
 use Rattle.significand.proofs.Sizes.{multiplier64-most}
 use Rattle.series.specs.declared.Reduction.{Reduction}
 use Rattle.series.specs.Parts.{Reduced}
-use Rattle.raw64.specs.Tried.{tried_of}
-
--- the questions, each worked out by itself
-pub door-is : (operation y p entries a b c d : ℕ) (op : Op) (known reciprocal lent : Bool)
-    → known ≡ is_operation operation
-    → op ≡ op_of operation
-    → reciprocal ≡ is_reciprocal op
-    → lent ≡ is_lent k64 op entries
-    → a ≡ ask lent 15 0
-    → b ≡ ask (eqb p 0 || (eqb p 1 && not reciprocal)) 4 a
-    → c ≡ ask (leb (2 ^ 52) y && ltb y (2 ^ 53)) 3 b
-    → d ≡ ask known 1 c
-    → d ≡ raw64_door operation y p entries
-unfolding raw64_door
-door-is operation y p entries a b c d op known reciprocal lent ek eo er el ea eb ec ed = rw (ed, ec, eb, ea, el, er, eo, ek)
 
 pub lent_is : (op : Op) (entries : ℕ) (b : Bool) → b ≡ is_reciprocal op → b || eqb entries 131072 ≡ is_lent k64 op entries
 lent_is op entries b e = rw e
@@ -76,15 +62,14 @@ pub reciprocal_is : (y r b g : ℕ) (d : Reduction) → r ≡ factor_of k64 (y /
 unfolding multiplier_of
 reciprocal_is y r b g d er h eb eg = raw-is Reciprocal y 0 r (r * 17592186044416) b g d er h eb refl eg
 
--- by the entry: M, and then the raw answer; or not, and then 0
+-- by the entry: M, and then the raw answer; or not, and then the refusal
 module _ (op : Op) (y p r m : ℕ) (table : List ℕ) (er : r ≡ factor_of k64 (y / 2 ^ 37)) (em : m ≡ get_or table (entry_place k64 op p (y / 2 ^ 37)) 0)
     (root : is_reciprocal op ≡ false) (holds : Bool) (eh : holds ≡ eqb m (multiplier_of k64 op r p)) where
   entry-is : is_entry k64 t64 op y p table ≡ holds
   unfolding is_entry index_of
   entry-is = rw (root, eh, em, er)
 
-  pub broken-is : holds ≡ false → record { holds = false; answer = 0 } ≡ tried_of op y p table
-  unfolding tried_of
+  pub broken-is : holds ≡ false → Err Entry ≡ entry_asked k64 t64 op y p table
   broken-is e = rw (entry-is, e)
 
   -- a number that is M
@@ -96,14 +81,13 @@ module _ (op : Op) (y p r m : ℕ) (table : List ℕ) (er : r ≡ factor_of k64 
   held_small least most parity e = rw (held-is e) (multiplier64-most op r p least most parity)
 
   pub tried-is : (b g : ℕ) (d : Reduction) → Reduced k64 t64 (y * r) d → b ≡ series_of k64 op d.positive d.magnitude
-      → g ≡ m * b / 2 ^ 60 → holds ≡ true → record { holds = true; answer = g } ≡ tried_of op y p table
-  unfolding tried_of
+      → g ≡ m * b / 2 ^ 60 → holds ≡ true → Ok g ≡ entry_asked k64 t64 op y p table
   tried-is b g d h eb eg e = rw (entry-is, e, ← (raw-is op y p r m b g d er h eb (held-is e) eg))
 
 -- the reciprocal needs no entry, and its parity is 0
 pub reciprocal-tried : (op : Op) (y p g : ℕ) (table : List ℕ) (b : Bool) → b ≡ is_reciprocal op → b ≡ true → Operand k64 t64 op y p
-    → g ≡ raw_of k64 t64 Reciprocal y 0 → record { holds = true; answer = g } ≡ tried_of op y p table
-unfolding tried_of is_entry
+    → g ≡ raw_of k64 t64 Reciprocal y 0 → Ok g ≡ entry_asked k64 t64 op y p table
+unfolding is_entry
 reciprocal-tried Reciprocal y p g table b e f h eg = rw (h.even refl, eg)
 reciprocal-tried Root y p g table b e f h eg = absurd (true≢false (sym f ∙ e))
 reciprocal-tried InverseRoot y p g table b e f h eg = absurd (true≢false (sym f ∙ e))

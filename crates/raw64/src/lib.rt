@@ -8,12 +8,10 @@ ghost use Rattle.kinds.specs.Operation.{is_reciprocal};
 ghost use Rattle.significand.specs.Width.{k64, t64, Significand, Operand};
 ghost use Rattle.significand.specs.Steps.{series_of, raw_of};
 ghost use Rattle.significand.specs.Tables.{tables_length, tables_before, entry_place};
-ghost use Rattle.significand.specs.Call.{is_lent, raw64_door};
-ghost use Rattle.raw64.specs.Tried.{tried_of};
-ghost use Rattle.raw64.specs.Reply.{reply_to};
+ghost use Rattle.significand.specs.Call.{is_significand, is_parity, is_lent, entry_asked, raw64_asked};
 
 use entries::holds;
-use kinds::{Op, ask};
+use kinds::{Op, Refusal};
 use series::Reduction;
 use series64::{factor, inverse_root_series, reciprocal_series, reduce, root_series, scaled};
 
@@ -27,54 +25,35 @@ const ENTRIES: usize = 32768;
 
 pub const TABLES: usize = 4 * ENTRIES;
 
-// An answer, where the entry that it needs is M.
-#[derive(Clone, Copy)]
-pub struct Tried {
-    pub holds: bool,
-    pub answer: u64,
-}
-
-// What the raw call gives back: refusal 0 with the answer; or the number of a question, with answer 0.
-#[derive(Clone, Copy)]
-pub struct Reply {
-    pub refusal: u8,
-    pub answer: u64,
-}
-
-// The raw call: the questions that ask for numbers alone first; then the work, which asks the last.
-pub fn call(operation: u8, significand: u64, parity: u8, table: &[u64]) -> Reply
-    ensures { result ≡ reply_to operation significand parity table.now }
+// The raw call: the questions that ask for numbers alone first, 3, 4 and 15; then the work, which asks the last.
+#[inline(always)]
+pub fn call(op: Op, significand: u64, parity: u8, table: &[u64]) -> Result<u64, Refusal>
+    ensures { result ≡ raw64_asked op significand parity table.now }
 {
-    let refusal = door(operation, significand, parity, table.len());
-    if refusal != 0 {
-        return Reply { refusal, answer: 0 };
+    if !is_significand(significand) {
+        return Err(Refusal::Significand);
     }
-    let tried = answer(Op::of(operation), significand, parity as u64, table);
-    if !tried.holds {
-        return Reply {
-            refusal: 16,
-            answer: 0,
-        };
+    if !is_parity(op, parity) {
+        return Err(Refusal::Parity);
     }
-    Reply {
-        refusal,
-        answer: tried.answer,
+    if !is_lent(op, table.len()) {
+        return Err(Refusal::Tables);
     }
+    answer(op, significand, parity as u64, table)
 }
 
-// The first of questions 1, 3, 4 and 15 that is answered "no", or 0.
-fn door(operation: u8, significand: u64, parity: u8, entries: usize) -> u8
-    ensures { result ≡ raw64_door operation significand parity entries }
+// Question 3.
+fn is_significand(significand: u64) -> bool
+    ensures { result ≡ is_significand k64 t64 significand }
 {
-    let known = Op::is_number(operation);
-    let op = Op::of(operation);
-    let sized = (LEAST_SIGNIFICAND <= significand) & (significand < SIGNIFICAND_LIMIT);
-    let even = parity == 0;
-    let odd = (parity == 1) & !op.is_reciprocal();
-    let last = ask(is_lent(op, entries), 15, 0);
-    let fourth = ask(even | odd, 4, last);
-    let third = ask(sized, 3, fourth);
-    ask(known, 1, third)
+    (LEAST_SIGNIFICAND <= significand) & (significand < SIGNIFICAND_LIMIT)
+}
+
+// Question 4.
+fn is_parity(op: Op, parity: u8) -> bool
+    ensures { result ≡ is_parity op parity }
+{
+    (parity == 0) | ((parity == 1) & !op.is_reciprocal())
 }
 
 // Question 15; the reciprocal looks at no slice.
@@ -85,15 +64,13 @@ pub fn is_lent(op: Op, entries: usize) -> bool
 }
 
 // Question 16 and the answer of an operation.
-pub fn answer(op: Op, y: u64, p: u64, table: &[u64]) -> Tried
+#[inline(always)]
+pub fn answer(op: Op, y: u64, p: u64, table: &[u64]) -> Result<u64, Refusal>
     requires { Operand k64 t64 op y p × (T (is_lent k64 op (length table.now))) }
-    ensures { result ≡ tried_of op y p table.now }
+    ensures { result ≡ entry_asked k64 t64 op y p table.now }
 {
     if op.is_reciprocal() {
-        return Tried {
-            holds: true,
-            answer: reciprocal(y),
-        };
+        return Ok(reciprocal(y));
     }
     rooted(op, y, p, table)
 }
@@ -109,23 +86,17 @@ fn reciprocal(y: u64) -> u64
 }
 
 // The root or the inverse root of Y, or of 2Y where p is 1.
-fn rooted(op: Op, y: u64, p: u64, table: &[u64]) -> Tried
+fn rooted(op: Op, y: u64, p: u64, table: &[u64]) -> Result<u64, Refusal>
     requires { Significand k64 t64 y × (p ≤ 1) × (is_reciprocal op ≡ false) × (length table.now ≡ tables_length k64) }
-    ensures { result ≡ tried_of op y p table.now }
+    ensures { result ≡ entry_asked k64 t64 op y p table.now }
 {
     let r = factor(y);
     let m = entry(op, y, p, table);
     if !holds(op, m, r, p) {
-        return Tried {
-            holds: false,
-            answer: 0,
-        };
+        return Err(Refusal::Entry);
     }
     let b = series_of(op, reduce(y, r));
-    Tried {
-        holds: true,
-        answer: scaled(m, b),
-    }
+    Ok(scaled(m, b))
 }
 
 // The entry that an operand uses.

@@ -1,8 +1,11 @@
 -- The raw calls: their questions, and what they answer. Assumes nothing.
-use Rattle.std.specs.Prelude.{ℕ, ◌+◌, ◌*◌, ◌-◌, ◌^◌, Bool, cond, not, ◌&&◌, ◌||◌, List, leb, ltb, eqb, length, get_or}
+use Rattle.std.specs.Prelude.{ℕ, ◌+◌, ◌*◌, ◌-◌, ◌^◌, Bool, cond, not, ◌&&◌, ◌||◌, List, leb, ltb, eqb, length, get_or, Result, Ok}
 use Rattle.kinds.specs.declared.Op.{Op}
 use Rattle.kinds.specs.Operation.{is_operation, op_of, is_reciprocal}
 use Rattle.kinds.specs.Question.{ask, then_ask}
+use Rattle.kinds.specs.declared.Refusal.{Refusal}
+use Rattle.kinds.specs.declared.Refusal.TheVariants as R
+use Rattle.kinds.specs.Refusal.{asked, then}
 use Rattle.significand.specs.Width.{k32, t32, k64, t64}
 use Rattle.significand.specs.Steps.{index_of, factor_of, multiplier_of, raw_of}
 use Rattle.significand.specs.Tables.{tables, tables_length, entry_place}
@@ -61,3 +64,40 @@ fill_refusal entries = ask (eqb entries (tables_length k64)) 15 0
 -- the lent slice after it: the tables; after a "no" what it held
 unfoldable pub slice_after : List ℕ → List ℕ
 slice_after before = cond (eqb (fill_refusal (length before)) 0) (tables k64) before
+
+-- ---- the same by cases, once question 1 is asked: each question whose "yes" gives a value, and the answer behind them
+
+-- question 3, and the significand
+abbrev pub significand_asked : ℕ → ℕ → ℕ → Result ℕ Refusal
+significand_asked k t y = asked (is_significand k t y) R.Significand y
+
+-- question 4, and the parity
+abbrev pub parity_asked : Op → ℕ → Result ℕ Refusal
+parity_asked op p = asked (is_parity op p) R.Parity p
+
+-- question 15, and nothing
+abbrev pub slice_asked : ℕ → Op → ℕ → Result (Unit {0}) Refusal
+slice_asked k op entries = asked (is_lent k op entries) R.Tables tt
+
+-- question 16, and g
+abbrev pub entry_asked : ℕ → ℕ → Op → ℕ → ℕ → List ℕ → Result ℕ Refusal
+entry_asked k t op y p table = asked (is_entry k t op y p table) R.Entry (raw_of k t op y p)
+
+-- the raw call
+abbrev pub raw_asked : Op → ℕ → ℕ → Result ℕ Refusal
+raw_asked op y p =
+    then (significand_asked k32 t32 y) (λ s.
+    then (parity_asked op p) (λ q.
+    Ok (raw_of k32 t32 op s q)))
+
+-- the raw call for significands of 53 bits
+abbrev pub raw64_asked : Op → ℕ → ℕ → List ℕ → Result ℕ Refusal
+raw64_asked op y p table =
+    then (significand_asked k64 t64 y) (λ s.
+    then (parity_asked op p) (λ q.
+    then (slice_asked k64 op (length table)) (λ lent.
+    entry_asked k64 t64 op s q table)))
+
+-- the filling call
+abbrev pub filling_asked : ℕ → Result (Unit {0}) Refusal
+filling_asked entries = asked (eqb entries (tables_length k64)) R.Tables tt
