@@ -1,10 +1,10 @@
 -- A reply by cases and the same in numbers. Assumes nothing.
-use mathlib.Core.Path.{◌≡◌, sym, ap, ◌∙◌}
+use mathlib.Core.Path.{◌≡◌}
 use mathlib.Core.List.{List}
 use Prim.Native.Nat.{ℕ}
-use Rattle.std.specs.Prelude.{Result, Ok, Err}
+use Rattle.std.specs.Prelude.{Ok, Err}
 use Rattle.kinds.specs.declared.Refusal.{Refusal}
-use Rattle.kinds.specs.Refusal.{number_of, refusal_of, answer_of, then, operation_asked}
+use Rattle.kinds.specs.Refusal.{number_of, then, operation_asked}
 use Rattle.significand.specs.Call.{fill_refusal, raw_asked, raw64_asked, filling_asked}
 use Rattle.significand.proofs.Asked.{raw-refusal, raw-answer, raw64-refusal, raw64-answer, filling-refusal}
 use Rattle.plate.specs.Raw.{raw_call}
