@@ -12,8 +12,8 @@ ghost use Rattle.std.specs.Iterator.{at_most};
 
 use input::{digested, read_full};
 use lines::Reader;
-use plate::{Operation, Rounding, Status};
-use std::io::Result;
+use plate::{Operation, Refusal, Rounding, Status};
+use std::io;
 use std::mem;
 
 // The most bytes of text.
@@ -24,7 +24,7 @@ const NUMBERS: usize = 131073;
 
 const TABLES: usize = 131072;
 
-fn main(rt: HostRuntime) -> Result<()> {
+fn main(rt: HostRuntime) -> io::Result<()> {
     let mut text = vec![in rt.alloc(); 0u8; SIZE]?;
     let n = read_full(&mut rt.stdin(), &mut text)?;
     let mut tables = vec![in rt.alloc(); 0u64; NUMBERS]?;
@@ -43,8 +43,8 @@ fn answer_all(
     calls: Calls,
     tables: &mut [u64],
     numbers: &mut [u64],
-) -> Result<()> {
-    fill_first(tables, TABLES);
+) -> io::Result<()> {
+    let _ = fill_first(tables, TABLES);
     for call in calls {
         call.answer(rt, tables, numbers)?;
     }
@@ -147,13 +147,16 @@ impl Call {
     }
 
     // Makes the call, and writes a line of what it gives. Whatever comes of it, the tables are then what they were.
-    fn answer(self, rt: &impl Print, tables: &mut [u64], numbers: &mut [u64]) -> Result<()>
+    fn answer(self, rt: &impl Print, tables: &mut [u64], numbers: &mut [u64]) -> io::Result<()>
         ensures { tables.new ≡ tables.old }
     {
         match self {
             Call::Fill { length } => {
                 put_sevens(numbers);
-                let refusal = fill_first(numbers, length);
+                let refusal = match fill_first(numbers, length) {
+                    Ok(()) => 0,
+                    Err(refusal) => refusal.number(),
+                };
                 println!(rt; "{refusal} {}", digest(numbers))
             }
             Call::Raw {
@@ -165,7 +168,10 @@ impl Call {
                 let reply = with_entry(tables, lent, |tables| {
                     plate::raw64(operation, significand, parity, tables)
                 });
-                println!(rt; "{} {:016X}", reply.refusal, reply.answer)
+                match reply {
+                    Ok(answer) => println!(rt; "0 {answer:016X}"),
+                    Err(refusal) => println!(rt; "{} 0000000000000000", refusal.number()),
+                }
             }
             Call::Binary64 {
                 lent,
@@ -177,10 +183,11 @@ impl Call {
                 let reply = with_entry(tables, lent, |tables| {
                     plate::binary64(operation, rounding, bits, status, tables)
                 });
-                println!(rt;
-                    "{} {:016X} {}",
-                    reply.refusal, reply.bits, reply.status.flags
-                )
+                let flags = reply.status.flags;
+                match reply.answer {
+                    Ok(answer) => println!(rt; "0 {answer:016X} {flags}"),
+                    Err(refusal) => println!(rt; "{} 0000000000000000 {flags}", refusal.number()),
+                }
             }
         }
     }
@@ -199,7 +206,7 @@ fn with_entry<R, F: FnOnce(&[u64]) -> R>(tables: &mut [u64], lent: Lent, call: F
 }
 
 // The filling call on the first numbers.
-fn fill_first(numbers: &mut [u64], length: usize) -> u8 {
+fn fill_first(numbers: &mut [u64], length: usize) -> Result<(), Refusal> {
     let lent = length.min(numbers.len());
     plate::fill_tables(&mut numbers[..lent])
 }

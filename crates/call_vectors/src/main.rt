@@ -91,10 +91,10 @@ impl Call {
                 operation,
                 significand,
                 parity,
-            } => {
-                let reply = plate::raw(operation, significand, parity);
-                println!(rt; "{} {}", reply.refusal, reply.answer)
-            }
+            } => match plate::raw(operation, significand, parity) {
+                Ok(answer) => println!(rt; "0 {answer}"),
+                Err(refusal) => println!(rt; "{} 0", refusal.number()),
+            },
             Call::Binary32 {
                 operation,
                 rounding,
@@ -102,10 +102,11 @@ impl Call {
                 status,
             } => {
                 let reply = plate::binary32(operation, rounding, bits, status);
-                println!(rt;
-                    "{} {:08X} {}",
-                    reply.refusal, reply.bits, reply.status.flags
-                )
+                let flags = reply.status.flags;
+                match reply.answer {
+                    Ok(answer) => println!(rt; "0 {answer:08X} {flags}"),
+                    Err(refusal) => println!(rt; "{} 00000000 {flags}", refusal.number()),
+                }
             }
         }
     }

@@ -37,7 +37,10 @@ fn run_all(rt: &impl Print, map: &[u8], out: &mut [u8]) -> Result<()> {
             } else {
                 list(Rounding(rounding), map, out)
             };
-            println!(rt; "{} {} {}", reply.refusal, reply.length, digest(out))?;
+            match reply {
+                Ok(length) => println!(rt; "0 {length} {}", digest(out))?,
+                Err(refusal) => println!(rt; "{} 0 {}", refusal.number(), digest(out))?,
+            }
         }
     }
     Ok(())

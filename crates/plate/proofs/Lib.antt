@@ -1,3 +1,4 @@
+pub mod Numbers
+pub mod Adapted
 pub mod Listed
-pub mod Rounded
-pub mod Replies
+pub mod Records

@@ -1,6 +1,9 @@
 pub mod Status
+pub mod Numbered
+pub mod Asked
 pub mod Raw
 pub mod Raw64
+pub mod Rounded
 pub mod Binary32
 pub mod Binary64
 pub mod List

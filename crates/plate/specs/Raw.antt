@@ -1,8 +1,9 @@
 -- What the raw call gives back. Assumes nothing.
-use Rattle.std.specs.Prelude.{ℕ}
-use Rattle.significand.specs.Call.{raw_refusal, raw_answer}
-use Rattle.plate.specs.declared.RawReply.{RawReply}
+use Rattle.std.specs.Prelude.{ℕ, Result}
+use Rattle.kinds.specs.declared.Refusal.{Refusal}
+use Rattle.kinds.specs.Refusal.{then, operation_asked}
+use Rattle.significand.specs.Call.{raw_asked}
 
--- the number of the first question answered "no", or 0, and the answer g, 0 after a "no"
-abbrev pub raw_call : ℕ → ℕ → ℕ → RawReply
-raw_call operation y p = record { refusal = raw_refusal operation y p; answer = raw_answer operation y p }
+-- question 1, and then what the operation gives: questions 3 and 4, and the answer g
+abbrev pub raw_call : ℕ → ℕ → ℕ → Result ℕ Refusal
+raw_call operation y p = then (operation_asked operation) (λ op. raw_asked op y p)

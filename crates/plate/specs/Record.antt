@@ -1,26 +1,28 @@
 -- What the record call gives back. Assumes nothing.
-use Rattle.std.specs.Prelude.{ℕ, List, pos, Option, Some, None, Result, Ok, Err}
+use Rattle.std.specs.Prelude.{ℕ, Bool, true, false, cond, List, eqb, pos, Option, Some, None, Result, Ok, Err}
 use Rattle.kinds.specs.declared.Mode.{Mode}
 use Rattle.kinds.specs.declared.Refusal.{Refusal}
 use Rattle.kinds.specs.Rounding.{number_of}
-use Rattle.kinds.specs.Refusal.{number_of as refusal_number}
+use Rattle.kinds.specs.Refusal.{refusal_of, then}
+use Rattle.trailer.specs.Kinds.{is_rounded}
+use Rattle.trailer.specs.Bytes.{list_kind}
+use Rattle.cutter.specs.List.{entry_at}
 use Rattle.reader.specs.declared.Record.{Record}
+use Rattle.reader.specs.Reader.{list_trailer, record_refusal}
 use Rattle.reader.specs.Record.{record_asked}
-use Rattle.plate.specs.declared.ListRounding.{ListRounding}
-use Rattle.plate.specs.declared.ListRounding.TheVariants.{Unknown, Known}
-use Rattle.plate.specs.declared.RecordReply.{RecordReply}
+use Rattle.plate.specs.declared.Rounding.{Rounding}
+use Rattle.plate.specs.declared.ListRecord.{ListRecord}
 use Rattle.plate.specs.declared.c.CRecordReply.{CRecordReply}
 
--- which rounding made a list: the one that its trailer states, by its number, or, where that states none, unknown
-abbrev pub list_rounding : Option Mode → ListRounding
-list_rounding (Some mode) = Known (record { 0 = number_of mode })
-list_rounding None = Unknown
+-- a rounding by its number
+abbrev pub list_rounding : Option Mode → Option Rounding
+list_rounding (Some mode) = Some (record { 0 = number_of mode })
+list_rounding None = None
 
--- the record in the types that users name; after a "no" its number, the rounding unknown, and 0 in every other place
-abbrev pub record_of : Result Record Refusal → RecordReply
-record_of (Ok r) =
+-- a record in the types that users name
+abbrev pub list_record : Record → ListRecord
+list_record r =
     record {
-      refusal = 0;
       rounding = list_rounding r.rounding;
       width = r.width;
       depth = r.depth;
@@ -30,23 +32,54 @@ record_of (Ok r) =
       y = r.y;
       z = r.z;
     }
-record_of (Err e) =
-    record { refusal = refusal_number e; rounding = Unknown; width = 0; depth = 0; step = 0; radius = 0; x = pos 0; y = pos 0; z = pos 0 }
 
--- what the call gives: rounding, sizes and record, or the number of the first question answered "no"
-abbrev pub record_call : List ℕ → ℕ → RecordReply
-record_call b index = record_of (record_asked b index)
+-- what the call gives: the first question answered "no", or rounding, sizes and record
+abbrev pub record_call : List ℕ → ℕ → Result ListRecord Refusal
+record_call b index = then (record_asked b index) (λ r. Ok (list_record r))
+
+-- ---- the same in numbers
+
+-- the rounding with the number that a trailer states, or, where it states none, unknown
+abbrev pub rounding_stated : Bool → ℕ → Option Rounding
+rounding_stated true n = Some (record { 0 = n })
+rounding_stated false n = None
+
+-- the rounding and the four sizes of the trailer, and the record's x, y and z as signed numbers
+abbrev pub record_read : List ℕ → ℕ → ListRecord
+record_read b index =
+    record {
+      rounding = rounding_stated (is_rounded (list_kind b)) (list_trailer b).rounding;
+      width = (list_trailer b).width;
+      depth = (list_trailer b).depth;
+      step = (list_trailer b).step;
+      radius = (list_trailer b).radius;
+      x = entry_at b index 0;
+      y = entry_at b index 1;
+      z = entry_at b index 2;
+    }
+
+-- after a "no" the rounding is unknown, and 0 stands in every other place
+abbrev pub no_record : ListRecord
+no_record = record { rounding = None; width = 0; depth = 0; step = 0; radius = 0; x = pos 0; y = pos 0; z = pos 0 }
+
+-- the numbers of a reply, and those that the call gives
+abbrev pub told_of : Result ListRecord Refusal → ListRecord
+told_of (Ok r) = r
+told_of (Err e) = no_record
+
+abbrev pub record_told : List ℕ → ℕ → ListRecord
+record_told b index = cond (eqb (record_refusal b index) 0) (record_read b index) no_record
 
 -- for C, which can be handed no cases: the rounding's number, and 255 where it is unknown
-abbrev pub rounding_number : ListRounding → ℕ
-rounding_number Unknown = 255
-rounding_number (Known rounding) = rounding.0
+abbrev pub rounding_number : Option Rounding → ℕ
+rounding_number None = 255
+rounding_number (Some rounding) = rounding.0
 
 -- and the reply with that number
-abbrev pub record_for_c : RecordReply → CRecordReply
-record_for_c r =
+abbrev pub numbers_for_c : ℕ → ListRecord → CRecordReply
+numbers_for_c refusal r =
     record {
-      refusal = r.refusal;
+      refusal = refusal;
       rounding = rounding_number r.rounding;
       width = r.width;
       depth = r.depth;
@@ -56,3 +89,6 @@ record_for_c r =
       y = r.y;
       z = r.z;
     }
+
+abbrev pub record_for_c : Result ListRecord Refusal → CRecordReply
+record_for_c r = numbers_for_c (refusal_of r) (told_of r)

@@ -1,5 +1,13 @@
 // What calls for C give back if one number has no room for it. The calls are those of the crate `plate_c`.
 
+// The reply for C of the raw call for significands of 53 bits: refusal 0 with the answer, or the number of a question with answer 0.
+#[repr(C)]
+#[derive(Clone, Copy)]
+pub struct Raw64Reply {
+    pub refusal: u8,
+    pub answer: u64,
+}
+
 // The binary64 call's reply for C, whose answer leaves no room in one number.
 #[repr(C)]
 #[derive(Clone, Copy)]

@@ -1,32 +1,36 @@
 // The plate unit. Every call that is open to users stands in this file and, for callers from C, in the crate `plate_c`, and nowhere else.
-// None asks anything of its caller: an operand that a call cannot take gets the number of the first question that it fails. The calls have one
-// shape: the questions first, on numbers as they come; then the work, an operation and a rounding being cases by then. They have it in
-// their layers, and here hand the reply on in the types that users name.
+// None asks anything of its caller: an operand that a call cannot take gets the refusal of the first question that it fails. The calls have
+// one shape: an operation and a rounding are cases once their questions are asked here; the layers below ask the others and do the work.
 #![tactic(auto)]
 
 pub mod c;
 
-ghost use Rattle.std.specs.Prelude.{◌≡◌, length};
-ghost use Rattle.kinds.specs.Refusal.{refusal_of, answer_of, operation_asked, rounding_asked, then};
+ghost use Rattle.std.specs.Prelude.{◌≡◌, length, Ok, Err};
 ghost use Rattle.kinds.specs.declared.Rule.TheVariants.{Touching, Lifted};
-ghost use Rattle.cutter.specs.Call.{list_asked, buffer_after};
-ghost use Rattle.significand.specs.Call.{fill_refusal, slice_after, raw_asked, raw64_asked};
+ghost use Rattle.kinds.specs.Rounding.{number_of};
+ghost use Rattle.kinds.specs.Refusal.{refusal_of, answer_of, operation_asked, rounding_asked};
+ghost use Rattle.significand.specs.Call.{raw_refusal, raw_answer, raw64_refusal, raw64_answer, fill_refusal, filling_asked, slice_after};
 ghost use Rattle.ieee.specs.Format.{binary32};
-ghost use Rattle.ieee.specs.Call.{binary32_asked};
+ghost use Rattle.ieee.specs.Call.{binary32_refusal, binary32_bits, binary32_status, binary32_asked};
 ghost use Rattle.pattern.specs.Answer.{Replied};
+ghost use Rattle.binary64.specs.Call.{binary64_refusal, binary64_bits, binary64_status};
+ghost use Rattle.reader.specs.Reader.{record_refusal};
 ghost use Rattle.plate.specs.Status.{raised, cleared};
 ghost use Rattle.plate.specs.Raw.{raw_call};
 ghost use Rattle.plate.specs.Raw64.{raw64_call};
 ghost use Rattle.plate.specs.Binary32.{binary32_call};
 ghost use Rattle.plate.specs.Binary64.{binary64_call};
 ghost use Rattle.plate.specs.List.{ListCall};
-ghost use Rattle.plate.specs.Record.{list_rounding, record_call};
+ghost use Rattle.plate.specs.Record.{record_call, record_told, told_of};
+ghost use Rattle.plate.specs.Numbered.{numbered};
 
-use kinds::{Flags, Mode, Op, Refusal, Rule, joined};
+pub use kinds::Refusal;
+
+use kinds::{Flags, Mode, Op, Rule, joined};
 use pattern::answer::Rounded;
 
 // An operation by its number.
-#[derive(Clone, Copy)]
+#[derive(Clone, Copy, Debug, PartialEq, Eq)]
 pub struct Operation(pub u8);
 
 impl Operation {
@@ -37,8 +41,19 @@ impl Operation {
     pub const INVERSE_ROOT: Operation = Operation(3);
 }
 
+// Question 1, and the operation with this number.
+impl TryFrom<Operation> for Op {
+    type Error = Refusal;
+
+    ghost try_from_gives = { λ n r. r ≡ operation_asked n.0 };
+
+    fn try_from(operation: Operation) -> Result<Op, Refusal> {
+        Op::try_from(operation.0)
+    }
+}
+
 // A rounding by its number.
-#[derive(Clone, Copy)]
+#[derive(Clone, Copy, Debug, PartialEq, Eq)]
 pub struct Rounding(pub u8);
 
 impl Rounding {
@@ -51,8 +66,27 @@ impl Rounding {
     pub const TOWARD_ZERO: Rounding = Rounding(3);
 }
 
+// Question 2, and the rounding with this number.
+impl TryFrom<Rounding> for Mode {
+    type Error = Refusal;
+
+    ghost try_from_gives = { λ n r. r ≡ rounding_asked n.0 };
+
+    fn try_from(rounding: Rounding) -> Result<Mode, Refusal> {
+        Mode::try_from(rounding.0)
+    }
+}
+
+impl From<Mode> for Rounding {
+    ghost from_gives = { λ mode r. r ≡ record { 0 = number_of mode } };
+
+    fn from(mode: Mode) -> Rounding {
+        Rounding(mode.number())
+    }
+}
+
 // A flag, or several, by its bit.
-#[derive(Clone, Copy)]
+#[derive(Clone, Copy, Debug, PartialEq, Eq)]
 pub struct Flag(pub u8);
 
 impl Flag {
@@ -68,7 +102,7 @@ impl Flag {
 }
 
 // The flags that were raised since the status was last cleared, one bit each.
-#[derive(Clone, Copy)]
+#[derive(Clone, Copy, Debug, Default, PartialEq, Eq)]
 pub struct Status {
     pub flags: u8,
 }
@@ -98,130 +132,96 @@ impl Status {
     }
 }
 
-// What the raw call gives back: refusal 0 with the answer g, which stands for g / 2^28; or the number of a question, with answer 0.
-#[derive(Clone, Copy)]
-pub struct RawReply {
-    pub refusal: u8,
-    pub answer: u32,
+// What a rounded call gives back: the new status, which after a refusal is the status as given, and the answer's bits or the refusal.
+#[derive(Clone, Copy, Debug, PartialEq, Eq)]
+pub struct Reply<T> {
+    pub status: Status,
+    pub answer: Result<T, Refusal>,
 }
 
-// The raw call: an operation on Y = significand / 2^23, or on 2Y where the parity is 1.
-pub fn raw(operation: Operation, significand: u32, parity: u8) -> RawReply
-    ensures { result ≡ raw_call operation.0 significand parity }
-{
-    match asked(operation.0, significand, parity) {
-        Ok(answer) => RawReply { refusal: 0, answer },
-        Err(refusal) => RawReply {
-            refusal: refusal.number(),
-            answer: 0,
-        },
+impl<T> Reply<T> {
+    // An answer, whose flags are raised in the status.
+    #[inline(always)]
+    fn answered(status: Status, flags: u8, bits: T) -> Reply<T>
+        ensures { result ≡ record { status = raised status flags; answer = Ok bits } }
+    {
+        Reply {
+            status: status.raise(Flag(flags)),
+            answer: Ok(bits),
+        }
+    }
+
+    // A refusal, and the status as given.
+    #[inline(always)]
+    fn refused(status: Status, refusal: Refusal) -> Reply<T>
+        ensures { result ≡ record { status = status; answer = Err refusal } }
+    {
+        Reply {
+            status,
+            answer: Err(refusal),
+        }
     }
 }
 
-#[inline(always)]
-fn asked(operation: u8, significand: u32, parity: u8) -> Result<u32, Refusal>
-    ensures { result ≡ then (operation_asked operation) (λ op. raw_asked op significand parity) }
+// The raw call: an operation on Y = significand / 2^23, or on 2Y where the parity is 1. Its answer g stands for g / 2^28.
+pub fn raw(operation: Operation, significand: u32, parity: u8) -> Result<u32, Refusal>
+    ensures value { result ≡ raw_call operation.0 significand parity }
+    ensures numbers { (refusal_of result ≡ raw_refusal operation.0 significand parity) × (answer_of result ≡ raw_answer operation.0 significand parity) }
 {
-    let op = Op::try_from(operation)?;
-    raw::call(op, significand, parity)
+    raw::call(Op::try_from(operation)?, significand, parity)
 }
 
 // How many numbers the tables are.
 pub const TABLES: usize = raw64::TABLES;
 
-// The filling call: the four tables of M that the roots of raw64 need, put into the lent slice. It gives the number of the one question
-// that it asks, 15, and then the slice holds what it held; or 0.
-pub fn fill_tables(tables: &mut [u64]) -> u8
-    ensures value { result ≡ fill_refusal (length tables.old) }
+// The filling call: the four tables of M that the roots of raw64 need, put into the lent slice. It asks one question, 15, and after that
+// refusal the slice holds what it held.
+pub fn fill_tables(tables: &mut [u64]) -> Result<(), Refusal>
+    ensures value { result ≡ filling_asked (length tables.old) }
+    ensures numbers { refusal_of result ≡ fill_refusal (length tables.old) }
     ensures tables_after { tables.new ≡ slice_after tables.old }
 {
-    match filling::call(tables) {
-        Ok(_) => 0,
-        Err(refusal) => refusal.number(),
-    }
+    filling::call(tables)
 }
 
-// What the raw call for significands of 53 bits gives back: refusal 0 with the answer g, which stands for g / 2^60; or the number of a
-// question, with answer 0. C is handed the same struct.
-#[repr(C)]
-#[derive(Clone, Copy)]
-pub struct Raw64Reply {
-    pub refusal: u8,
-    pub answer: u64,
-}
-
-// The raw call for significands of 53 bits: an operation on Y = significand / 2^52, or on 2Y where the parity is 1. A root takes its M
-// from the lent tables and tests it; the reciprocal looks at none.
-pub fn raw64(operation: Operation, significand: u64, parity: u8, tables: &[u64]) -> Raw64Reply
-    ensures { result ≡ raw64_call operation.0 significand parity tables.now }
+// The raw call for significands of 53 bits: an operation on Y = significand / 2^52, or on 2Y where the parity is 1. Its answer g stands
+// for g / 2^60. A root takes its M from the lent tables and tests it; the reciprocal looks at none.
+pub fn raw64(
+    operation: Operation,
+    significand: u64,
+    parity: u8,
+    tables: &[u64],
+) -> Result<u64, Refusal>
+    ensures value { result ≡ raw64_call operation.0 significand parity tables.now }
+    ensures numbers { (refusal_of result ≡ raw64_refusal operation.0 significand parity tables.now) × (answer_of result ≡ raw64_answer operation.0 significand parity tables.now) }
 {
-    match asked64(operation.0, significand, parity, tables) {
-        Ok(answer) => Raw64Reply { refusal: 0, answer },
-        Err(refusal) => Raw64Reply {
-            refusal: refusal.number(),
-            answer: 0,
-        },
-    }
-}
-
-#[inline(always)]
-fn asked64(operation: u8, significand: u64, parity: u8, tables: &[u64]) -> Result<u64, Refusal>
-    ensures { result ≡ then (operation_asked operation) (λ op. raw64_asked op significand parity tables.now) }
-{
-    let op = Op::try_from(operation)?;
-    raw64::call(op, significand, parity, tables)
-}
-
-// What the binary32 call gives back: refusal 0 with the answer's bits and the new status; or the number of a question, with bits 0 and
-// the status as given.
-#[derive(Clone, Copy)]
-pub struct Binary32Reply {
-    pub refusal: u8,
-    pub bits: u32,
-    pub status: Status,
+    raw64::call(Op::try_from(operation)?, significand, parity, tables)
 }
 
 // The binary32 call: an operation on the number with these bits, rounded. The flags that it raises are joined to the status.
-pub fn binary32(
-    operation: Operation,
-    rounding: Rounding,
-    bits: u32,
-    status: Status,
-) -> Binary32Reply
-    ensures { result ≡ binary32_call operation.0 rounding.0 bits status }
+pub fn binary32(operation: Operation, rounding: Rounding, bits: u32, status: Status) -> Reply<u32>
+    ensures value { result ≡ binary32_call operation.0 rounding.0 bits status }
+    ensures numbers { (refusal_of result.answer ≡ binary32_refusal operation.0 rounding.0) × (answer_of result.answer ≡ binary32_bits operation.0 rounding.0 bits) }
+    ensures status { result.status.flags ≡ binary32_status operation.0 rounding.0 bits status.flags }
 {
-    match binary32_rounded(operation.0, rounding.0, bits) {
-        Ok(r) => Binary32Reply {
-            refusal: 0,
-            bits: r.bits as u32,
-            status: Status {
-                flags: joined(status.flags, r.flags),
-            },
-        },
-        Err(refusal) => Binary32Reply {
-            refusal: refusal.number(),
-            bits: 0,
-            status,
-        },
+    match binary32_rounded(operation, rounding, bits) {
+        Ok(r) => Reply::answered(status, r.flags, r.bits as u32),
+        Err(refusal) => Reply::refused(status, refusal),
     }
 }
 
 // Questions 1 and 2, and the answer with the flags that it raises.
 #[inline(always)]
-fn binary32_rounded(operation: u8, rounding: u8, bits: u32) -> Result<Rounded, Refusal>
-    ensures { Replied binary32 (binary32_asked operation rounding bits) result }
+fn binary32_rounded(
+    operation: Operation,
+    rounding: Rounding,
+    bits: u32,
+) -> Result<Rounded, Refusal>
+    ensures { Replied binary32 (binary32_asked operation.0 rounding.0 bits) result }
 {
     let op = Op::try_from(operation)?;
     let mode = Mode::try_from(rounding)?;
     Ok(binary32::rounded(op, mode, bits))
-}
-
-// What the binary64 call gives back, as the binary32 call does.
-#[derive(Clone, Copy)]
-pub struct Binary64Reply {
-    pub refusal: u8,
-    pub bits: u64,
-    pub status: Status,
 }
 
 // The binary64 call. The roots take M from the lent tables, and test the entry that they use; the reciprocal looks at no slice.
@@ -231,76 +231,49 @@ pub fn binary64(
     bits: u64,
     status: Status,
     tables: &[u64],
-) -> Binary64Reply
-    ensures { result ≡ binary64_call operation.0 rounding.0 bits status tables.now }
+) -> Reply<u64>
+    ensures value { result ≡ binary64_call operation.0 rounding.0 bits status tables.now }
+    ensures numbers { (refusal_of result.answer ≡ binary64_refusal operation.0 rounding.0 bits tables.now) × (answer_of result.answer ≡ binary64_bits operation.0 rounding.0 bits tables.now) }
+    ensures status { result.status.flags ≡ binary64_status operation.0 rounding.0 bits status.flags tables.now }
 {
     let r = binary64::call(operation.0, rounding.0, bits, status.flags, tables);
-    Binary64Reply {
-        refusal: r.refusal,
-        bits: r.bits,
+    Reply {
         status: Status { flags: r.status },
+        answer: numbered(r.refusal, r.bits),
     }
 }
 
-// What a list call gives back: refusal 0 with the length of the list; or the number of a question, with length 0.
-#[derive(Clone, Copy)]
-pub struct ListReply {
-    pub refusal: u8,
-    pub length: usize,
-}
-
-impl ListReply {
-    fn of(answer: Result<usize, Refusal>) -> ListReply
-        ensures { result ≡ record { refusal = refusal_of answer; length = answer_of answer } }
-    {
-        match answer {
-            Ok(length) => ListReply { refusal: 0, length },
-            Err(refusal) => ListReply {
-                refusal: refusal.number(),
-                length: 0,
-            },
-        }
-    }
-}
-
-// The list call: the cutter's centres over a map, put at the front of the lent buffer; the bytes behind the list are kept. After a
-// refusal the buffer holds what it held.
-pub fn list(rounding: Rounding, map: &[u8], buffer: &mut [u8]) -> ListReply
+// The list call: the cutter's centres over a map, put at the front of the lent buffer; the bytes behind the list are kept. It gives the
+// list's length. After a refusal the buffer holds what it held.
+pub fn list(rounding: Rounding, map: &[u8], buffer: &mut [u8]) -> Result<usize, Refusal>
     ensures { ListCall Touching rounding.0 map.now buffer.old result buffer.new }
 {
-    ListReply::of(list_by(Rule::Touching, rounding.0, map, buffer))
+    list_by(Rule::Touching, rounding, map, buffer)
 }
 
 // The same with each centre lifted until the ball keeps off the nine heights round its point.
-pub fn lifted_list(rounding: Rounding, map: &[u8], buffer: &mut [u8]) -> ListReply
+pub fn lifted_list(rounding: Rounding, map: &[u8], buffer: &mut [u8]) -> Result<usize, Refusal>
     ensures { ListCall Lifted rounding.0 map.now buffer.old result buffer.new }
 {
-    ListReply::of(list_by(Rule::Lifted, rounding.0, map, buffer))
+    list_by(Rule::Lifted, rounding, map, buffer)
 }
 
-// Question 2, and then the call's others.
-fn list_by(rule: Rule, number: u8, map: &[u8], buffer: &mut [u8]) -> Result<usize, Refusal>
-    ensures value { result ≡ then (rounding_asked number) (λ mode. list_asked map.now (length buffer.old)) }
-    ensures buffer_after { buffer.new ≡ buffer_after rule number map.now buffer.old }
+fn list_by(
+    rule: Rule,
+    rounding: Rounding,
+    map: &[u8],
+    buffer: &mut [u8],
+) -> Result<usize, Refusal>
+    ensures { ListCall rule rounding.0 map.now buffer.old result buffer.new }
 {
-    let mode = Mode::try_from(number)?;
-    listing::call(rule, mode, map, buffer)
+    listing::call(rule, Mode::try_from(rounding)?, map, buffer)
 }
 
-// Which rounding made a list, as its trailer states it: unknown where that has none, as in lists of document 01.
-#[derive(Clone, Copy)]
-pub enum ListRounding {
-    Unknown,
-    Known(Rounding),
-}
-
-// What the record call gives back: refusal 0 with the rounding and the sizes of the list's trailer, columns and rows first, and the
-// record's coordinates, in micrometres like step and radius; or the number of a question, the rounding unknown, and 0 in every other
-// place.
-#[derive(Clone, Copy)]
-pub struct RecordReply {
-    pub refusal: u8,
-    pub rounding: ListRounding,
+// A record of a list, with what its trailer says: the rounding that made the list, unknown where the trailer has none, as in lists of
+// document 01; the sizes, columns and rows first; and the record's coordinates, in micrometres like step and radius.
+#[derive(Clone, Copy, Debug, PartialEq, Eq)]
+pub struct ListRecord {
+    pub rounding: Option<Rounding>,
     pub width: u32,
     pub depth: u32,
     pub step: u32,
@@ -312,41 +285,43 @@ pub struct RecordReply {
 
 // The record call: a list's rounding and sizes, and its record at an index, counted from 0, row by row. The bytes are the list's and no
 // more: as many as the list call reported.
-pub fn record(list: &[u8], index: usize) -> RecordReply
-    ensures { result ≡ record_call list.now index }
+pub fn record(list: &[u8], index: usize) -> Result<ListRecord, Refusal>
+    ensures value { result ≡ record_call list.now index }
+    ensures numbers { (refusal_of result ≡ record_refusal list.now index) × (told_of result ≡ record_told list.now index) }
 {
-    match reader::call(list, index) {
-        Ok(r) => RecordReply {
-            refusal: 0,
-            rounding: list_rounding(r.rounding),
-            width: r.width,
-            depth: r.depth,
-            step: r.step,
-            radius: r.radius,
-            x: r.x,
-            y: r.y,
-            z: r.z,
-        },
-        Err(refusal) => RecordReply {
-            refusal: refusal.number(),
-            rounding: ListRounding::Unknown,
-            width: 0,
-            depth: 0,
-            step: 0,
-            radius: 0,
-            x: 0,
-            y: 0,
-            z: 0,
-        },
-    }
+    let r = reader::call(list, index)?;
+    Ok(ListRecord {
+        rounding: r.rounding.map(Rounding::from),
+        width: r.width,
+        depth: r.depth,
+        step: r.step,
+        radius: r.radius,
+        x: r.x,
+        y: r.y,
+        z: r.z,
+    })
 }
 
-// The rounding of a list whose trailer states one, or none.
-fn list_rounding(rounding: Option<Mode>) -> ListRounding
-    ensures { result ≡ list_rounding rounding }
+fn numbered<T: Copy>(number: u8, answer: T) -> Result<T, Refusal>
+    ensures { result ≡ numbered number answer }
 {
-    match rounding {
-        Some(mode) => ListRounding::Known(Rounding(mode.number())),
-        None => ListRounding::Unknown,
+    match number {
+        0 => Ok(answer),
+        1 => Err(Refusal::Operation),
+        2 => Err(Refusal::Rounding),
+        3 => Err(Refusal::Significand),
+        4 => Err(Refusal::Parity),
+        5 => Err(Refusal::Short),
+        6 => Err(Refusal::MapLetters),
+        7 => Err(Refusal::Sides),
+        8 => Err(Refusal::Lengths),
+        9 => Err(Refusal::MapDistance),
+        10 => Err(Refusal::Height),
+        11 => Err(Refusal::Room),
+        12 => Err(Refusal::ListLetters),
+        13 => Err(Refusal::ListDistance),
+        14 => Err(Refusal::Index),
+        15 => Err(Refusal::Tables),
+        _ => Err(Refusal::Entry),
     }
 }

@@ -12,10 +12,10 @@ ghost use Rattle.plate.specs.Raw64.{raw64_call};
 ghost use Rattle.plate.specs.Binary64.{binary64_call, binary64_for_c};
 ghost use Rattle.plate.specs.Record.{record_call, rounding_number, record_for_c};
 
-use plate::c::{CBinary64Reply, CRecordReply};
+use plate::c::{CBinary64Reply, CRecordReply, Raw64Reply};
 use plate::{
-    ListRounding, Operation, Raw64Reply, Rounding, Status, binary32, binary64, fill_tables,
-    lifted_list, list, raw, raw64, record,
+    ListRecord, Operation, Refusal, Rounding, Status, binary32, binary64, fill_tables, lifted_list,
+    list, raw, raw64, record,
 };
 
 // The raw call; it has no status, so those bits are 0.
@@ -23,8 +23,10 @@ use plate::{
 pub extern "C" fn plate_raw(operation: u8, significand: u32, parity: u8) -> u64
     ensures { result ≡ packed (raw_refusal operation significand parity) 0 (raw_answer operation significand parity) }
 {
-    let r = raw(Operation(operation), significand, parity);
-    pack(r.refusal, 0, r.answer)
+    match raw(Operation(operation), significand, parity) {
+        Ok(answer) => pack(0, 0, answer),
+        Err(refusal) => pack(refusal.number(), 0, 0),
+    }
 }
 
 // The filling call, which gives the refusal alone.
@@ -33,7 +35,10 @@ pub extern "C" fn plate_fill_tables(tables: &mut [u64]) -> u8
     ensures value { result ≡ fill_refusal (length tables.old) }
     ensures tables_after { tables.new ≡ slice_after tables.old }
 {
-    fill_tables(tables)
+    match fill_tables(tables) {
+        Ok(()) => 0,
+        Err(refusal) => refusal.number(),
+    }
 }
 
 // The raw call for significands of 53 bits.
@@ -44,9 +49,16 @@ pub extern "C" fn plate_raw64(
     parity: u8,
     tables: &[u64],
 ) -> Raw64Reply
-    ensures { result ≡ raw64_call operation significand parity tables.now }
+    ensures value { result ≡ raw64_for_c (raw64_call operation significand parity tables.now) }
+    ensures numbers { (result.refusal ≡ raw64_refusal operation significand parity tables.now) × (result.answer ≡ raw64_answer operation significand parity tables.now) }
 {
-    raw64(Operation(operation), significand, parity, tables)
+    match raw64(Operation(operation), significand, parity, tables) {
+        Ok(answer) => Raw64Reply { refusal: 0, answer },
+        Err(refusal) => Raw64Reply {
+            refusal: refusal.number(),
+            answer: 0,
+        },
+    }
 }
 
 // The binary32 call.
@@ -54,13 +66,16 @@ pub extern "C" fn plate_raw64(
 pub extern "C" fn plate_binary32(operation: u8, rounding: u8, status: u8, bits: u32) -> u64
     ensures { result ≡ packed (binary32_refusal operation rounding) (binary32_status operation rounding bits status) (binary32_bits operation rounding bits) }
 {
-    let r = binary32(
+    let reply = binary32(
         Operation(operation),
         Rounding(rounding),
         bits,
         Status { flags: status },
     );
-    pack(r.refusal, r.status.flags, r.bits)
+    match reply.answer {
+        Ok(answer) => pack(0, reply.status.flags, answer),
+        Err(refusal) => pack(refusal.number(), reply.status.flags, 0),
+    }
 }
 
 // The binary64 call.
@@ -72,19 +87,28 @@ pub extern "C" fn plate_binary64(
     bits: u64,
     tables: &[u64],
 ) -> CBinary64Reply
-    ensures { result ≡ binary64_for_c (binary64_call operation rounding bits (record { flags = status }) tables.now) }
+    ensures value { result ≡ binary64_for_c (binary64_call operation rounding bits (record { flags = status }) tables.now) }
+    ensures numbers { (result.refusal ≡ binary64_refusal operation rounding bits tables.now) × (result.bits ≡ binary64_bits operation rounding bits tables.now) }
+    ensures status { result.status ≡ binary64_status operation rounding bits status tables.now }
 {
-    let r = binary64(
+    let reply = binary64(
         Operation(operation),
         Rounding(rounding),
         bits,
         Status { flags: status },
         tables,
     );
-    CBinary64Reply {
-        refusal: r.refusal,
-        status: r.status.flags,
-        bits: r.bits,
+    match reply.answer {
+        Ok(answer) => CBinary64Reply {
+            refusal: 0,
+            status: reply.status.flags,
+            bits: answer,
+        },
+        Err(refusal) => CBinary64Reply {
+            refusal: refusal.number(),
+            status: reply.status.flags,
+            bits: 0,
+        },
     }
 }
 
@@ -94,8 +118,10 @@ pub extern "C" fn plate_list(rounding: u8, map: &[u8], buffer: &mut [u8]) -> u64
     ensures value { result ≡ packed (list_refusal rounding map.now (length buffer.old)) 0 (list_answer rounding map.now (length buffer.old)) }
     ensures buffer_after { buffer.new ≡ buffer_after Touching rounding map.now buffer.old }
 {
-    let r = list(Rounding(rounding), map, buffer);
-    pack(r.refusal, 0, r.length as u32)
+    match list(Rounding(rounding), map, buffer) {
+        Ok(length) => pack(0, 0, length as u32),
+        Err(refusal) => pack(refusal.number(), 0, 0),
+    }
 }
 
 // The lifted list call.
@@ -104,8 +130,10 @@ pub extern "C" fn plate_lifted_list(rounding: u8, map: &[u8], buffer: &mut [u8])
     ensures value { result ≡ packed (list_refusal rounding map.now (length buffer.old)) 0 (list_answer rounding map.now (length buffer.old)) }
     ensures buffer_after { buffer.new ≡ buffer_after Lifted rounding map.now buffer.old }
 {
-    let r = lifted_list(Rounding(rounding), map, buffer);
-    pack(r.refusal, 0, r.length as u32)
+    match lifted_list(Rounding(rounding), map, buffer) {
+        Ok(length) => pack(0, 0, length as u32),
+        Err(refusal) => pack(refusal.number(), 0, 0),
+    }
 }
 
 // The record call.
@@ -113,11 +141,30 @@ pub extern "C" fn plate_lifted_list(rounding: u8, map: &[u8], buffer: &mut [u8])
 pub extern "C" fn plate_record(list: &[u8], index: usize) -> CRecordReply
     ensures { result ≡ record_for_c (record_call list.now index) }
 {
-    let r = record(list, index);
-    let rounding = r.rounding;
+    match record(list, index) {
+        Ok(r) => record_for_c(0, r),
+        Err(refusal) => record_for_c(
+            refusal.number(),
+            ListRecord {
+                rounding: None,
+                width: 0,
+                depth: 0,
+                step: 0,
+                radius: 0,
+                x: 0,
+                y: 0,
+                z: 0,
+            },
+        ),
+    }
+}
+
+fn record_for_c(refusal: u8, r: ListRecord) -> CRecordReply
+    ensures { result ≡ numbers_for_c refusal r }
+{
     CRecordReply {
-        refusal: r.refusal,
-        rounding: rounding_number(rounding),
+        refusal,
+        rounding: rounding_number(r.rounding),
         width: r.width,
         depth: r.depth,
         step: r.step,
@@ -128,12 +175,12 @@ pub extern "C" fn plate_record(list: &[u8], index: usize) -> CRecordReply
     }
 }
 
-fn rounding_number(rounding: ListRounding) -> u8
+fn rounding_number(rounding: Option<Rounding>) -> u8
     ensures { result ≡ rounding_number rounding }
 {
     match rounding {
-        ListRounding::Unknown => 255,
-        ListRounding::Known(known) => known.0,
+        None => 255,
+        Some(known) => known.0,
     }
 }
 

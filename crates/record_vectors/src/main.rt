@@ -4,7 +4,7 @@
 #![tactic(auto)]
 
 use input::{read_full, read_word};
-use plate::{ListRounding, record};
+use plate::{Rounding, record};
 use std::io::Result;
 
 fn main(rt: HostRuntime) -> Result<()> {
@@ -35,19 +35,20 @@ fn read_index(rt: &HostRuntime) -> Result<usize> {
 }
 
 fn run(rt: &impl Print, list: &[u8], index: usize) -> Result<()> {
-    let reply = record(list, index);
-    print!(rt; "{} ", reply.refusal)?;
-    told(rt, reply.rounding)?;
-    print!(rt;
-        "{} {} {} {} ",
-        reply.width, reply.depth, reply.step, reply.radius
-    )?;
-    println!(rt; "{} {} {}", reply.x, reply.y, reply.z)
+    match record(list, index) {
+        Ok(r) => {
+            print!(rt; "0 ")?;
+            told(rt, r.rounding)?;
+            print!(rt; "{} {} {} {} ", r.width, r.depth, r.step, r.radius)?;
+            println!(rt; "{} {} {}", r.x, r.y, r.z)
+        }
+        Err(refusal) => println!(rt; "{} - 0 0 0 0 0 0 0", refusal.number()),
+    }
 }
 
-fn told(rt: &impl Print, rounding: ListRounding) -> Result<()> {
+fn told(rt: &impl Print, rounding: Option<Rounding>) -> Result<()> {
     match rounding {
-        ListRounding::Unknown => print!(rt; "- "),
-        ListRounding::Known(known) => print!(rt; "{} ", known.0),
+        None => print!(rt; "- "),
+        Some(known) => print!(rt; "{} ", known.0),
     }
 }

@@ -1,5 +1,6 @@
 -- A number from 2^-63 to below 2^64 comes back, from the language's product of it with itself and from the unit's call on the product's
 -- bits. Assumes nothing.
+use Rattle.std.specs.Prelude.{Ok}
 use mathlib.Core.Path.{◌≡◌, refl, ap, sym, subst, ◌∙◌}
 use mathlib.Core.Bool.{Bool, true, false, ◌||◌}
 use mathlib.Core.Logic.{by_cases}
@@ -19,8 +20,6 @@ use Rattle.kinds.specs.declared.Op.TheVariants.{Root}
 use Rattle.kinds.specs.declared.Mode.TheVariants.{Nearest}
 use Rattle.ieee.specs.Format.{binary32, infinity, magnitude_of}
 use Rattle.ieee.specs.Answer.{answer_of}
-use Rattle.ieee.specs.Call.{binary32_refusal}
-use Rattle.ieee.proofs.Accepted.{unrefused, accepted-bits}
 use Rattle.ieee.proofs.Neighbours.{rising-back}
 use Rattle.plate.specs.declared.Status.{Status}
 use Rattle.plate.specs.Binary32.{binary32_call}
@@ -113,9 +112,9 @@ unfolding root_of_square
 comes_back x F h = ap (of_bits I.binary32) (root-bits x F h) ∙ of_bits-to_bits I.binary32 x F
 
 -- and so it does from the unit's call, operation 2 (root) and rounding 0 (nearest), on the product's bits, whatever the status
-pub root-called : (b : ℕ) (status : Status) → (binary32_call 2 0 b status).bits ≡ (answer_of binary32 Root Nearest b).bits
-root-called b status = accepted-bits binary32 (binary32_refusal 2 0) Root Nearest b (unrefused 2 0 tt tt)
+pub root-called : (b : ℕ) (status : Status) → (binary32_call 2 0 b status).answer ≡ Ok (answer_of binary32 Root Nearest b).bits
+root-called b status = refl
 
 pub call-comes-back : (x : Float) → T (fits I.binary32 x) → T (is_width x) → (status : Status)
-    → (binary32_call 2 0 (to_bits I.binary32 (mul I.binary32 x x)) status).bits ≡ to_bits I.binary32 x
-call-comes-back x F h status = root-called (to_bits I.binary32 (mul I.binary32 x x)) status ∙ root-bits x F h
+    → (binary32_call 2 0 (to_bits I.binary32 (mul I.binary32 x x)) status).answer ≡ Ok (to_bits I.binary32 x)
+call-comes-back x F h status = root-called (to_bits I.binary32 (mul I.binary32 x x)) status ∙ ap (λ (n : ℕ). Ok n) (root-bits x F h)

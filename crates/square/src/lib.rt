@@ -16,7 +16,7 @@ pub fn square_then_root(width: f32, status: Status) -> f32
         return width;
     }
     let squared = width * width;
-    let bits = f32::to_bits(squared);
+    let bits = squared.to_bits();
     let reply = plate::binary32(Operation::ROOT, Rounding::NEAREST, bits, status);
-    f32::from_bits(reply.bits)
+    f32::from_bits(reply.answer.unwrap())
 }

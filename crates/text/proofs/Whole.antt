@@ -1,4 +1,5 @@
 -- The whole text: of input that is too long, of a refused map, and of a list. Assumes nothing.
+use Rattle.std.specs.Prelude.{Result, Ok, Err}
 use mathlib.Core.Path.{◌≡◌, refl, sym, ap, ◌∙◌}
 use mathlib.Core.List.{List, [], ◌∷◌, ◌++◌}
 use mathlib.Core.Bool.{false, cond}
@@ -11,6 +12,9 @@ use lib.ListN.{length}
 use lib.IntN.{pos}
 use Rattle.kinds.specs.declared.Mode.TheVariants.{Nearest}
 use Rattle.kinds.specs.Rounding.{is_rounding}
+use Rattle.kinds.specs.declared.Refusal.{Refusal}
+use Rattle.kinds.specs.Refusal.{number_of, refusal_of}
+use Rattle.kinds.proofs.Refusals.{number-positive}
 use Rattle.kinds.proofs.Questions.{later}
 use Rattle.words.specs.Joined.{joined}
 use Rattle.words.specs.Splice.{splice}
@@ -28,7 +32,6 @@ use Rattle.cutter.specs.Accepted.{Sizes}
 use Rattle.cutter.proofs.Counts.{count_most}
 use Rattle.cutter.proofs.Accepted.{always-room, map-asked, trailer-fits, sizes-of, held_of}
 use Rattle.cutter.proofs.Entries.{list_held}
-use Rattle.plate.specs.declared.ListReply.{ListReply}
 use Rattle.plate.specs.List.{ListCall}
 use Rattle.decimal.specs.Put.{PutAt}
 use Rattle.decimal.proofs.Putting.{put-behind, put-within}
@@ -110,27 +113,32 @@ module _ (m list out : List ℕ) (room : text_most ≤ length out) where
   too_long r out₁ h p =
       text-call (refused_text 9) 20 r list out₁ (omega arith) (nine m h) p (rw (lt-ltb map_most (length m) h))
 
-  module _ (few : length m ≤ map_most) (held : list_most ≡ length list) (reply : ListReply) (list₁ : List ℕ) (c : ListCall Lifted 0 m list reply list₁) where
+  module _ (few : length m ≤ map_most) (held : list_most ≡ length list) (reply : Result ℕ Refusal) (list₁ : List ℕ) (c : ListCall Lifted 0 m list reply list₁) where
     short : ltb map_most (length m) ≡ false
     short = le-ltb map_most (length m) few
 
-    refusal_is : reply.refusal ≡ text_refusal m
+    refusal_is : refusal_of reply ≡ text_refusal m
     unfolding text_refusal
-    refusal_is = ap (λ (x : ListReply). x.refusal) c.answers ∙ rw (short, held)
+    refusal_is = c.refuses ∙ rw (short, held)
 
     made-is : list₁ ≡ cond (ltb map_most (length m)) list (buffer_after Lifted 0 m list)
     made-is = rw short c.leaves
 
     -- a refused map
-    pub refused-map : (r : ℕ) (out₁ : List ℕ) → (reply.refusal ≡ 0 → ⊥) → PutAt 0 20 (refused_text reply.refusal) out r out₁
+    pub refused-map : (e : Refusal) (n : ℕ) → reply ≡ Err e → n ≡ number_of e → (r : ℕ) (out₁ : List ℕ) → PutAt 0 20 (refused_text n) out r out₁
         → TextCall m list out r list₁ out₁
-    refused-map r out₁ n p =
-        text-call (refused_text reply.refusal) 20 r list₁ out₁ (omega arith) (refused-text reply.refusal (sym refusal_is) n) p made-is
+    refused-map e n f g r out₁ p =
+        let some : 0 < number_of e = number-positive e in
+        text-call (refused_text n) 20 r list₁ out₁ (omega arith)
+        (refused-text n (sym refusal_is ∙ ap refusal_of f ∙ sym g) (λ z. omega (arith, g, z, some))) p made-is
 
     -- a list
-    module _ (z : reply.refusal ≡ 0) where
+    module _ (reported : ℕ) (ok : reply ≡ Ok reported) where
+      z : refusal_of reply ≡ 0
+      z = ap refusal_of ok
+
       accepted : list_refusal 0 m (length list) ≡ 0
-      accepted = sym (ap (λ (x : ListReply). x.refusal) c.answers) ∙ z
+      accepted = sym c.refuses ∙ z
 
       none : map_refusal m (length list) ≡ 0
       none = map-asked 0 m (length list) accepted

@@ -35,11 +35,10 @@ fn put_answer(map: &[u8], list: &mut [u8], out: &mut [u8]) -> usize
     if 16400 < map.len() {
         return put_refused(out, 9);
     }
-    let reply = plate::lifted_list(Rounding::NEAREST, map, list);
-    if reply.refusal != 0 {
-        return put_refused(out, reply.refusal);
+    match plate::lifted_list(Rounding::NEAREST, map, list) {
+        Ok(_) => put_list(read_last(map, Kind::Plt1), list, out),
+        Err(refusal) => put_refused(out, refusal.number()),
     }
-    put_list(read_last(map, Kind::Plt1), list, out)
 }
 
 fn put_refused(out: &mut [u8], number: u8) -> usize

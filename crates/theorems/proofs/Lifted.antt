@@ -1,11 +1,14 @@
 -- REQUEST #104, of two calls in one rounding, one of which lifts: whatever the two lent buffers held. Assumes nothing.
 use mathlib.Core.Path.{◌≡◌, sym, ap, subst, ◌∙◌}
+use Rattle.std.specs.Prelude.{Result}
 use mathlib.Core.List.{List, ◌++◌}
 use Prim.Native.Nat.{ℕ, zero, suc, ◌*◌, ◌<◌}
 use native.Mathlib.Omega.{arith}
 use lib.ListN.{length, take, drop}
 use Rattle.kinds.specs.Rounding.{mode_of, number_of}
 use Rattle.kinds.specs.declared.Rule.{Rule}
+use Rattle.kinds.specs.declared.Refusal.{Refusal}
+use Rattle.kinds.specs.Refusal.{refusal_of, answer_of}
 use Rattle.kinds.specs.declared.Rule.TheVariants.{Touching, Lifted}
 use Rattle.words.specs.Word.{half_bytes}
 use Rattle.cutter.specs.Map.{width_of, depth_of, step_of, radius_of}
@@ -20,13 +23,12 @@ use Rattle.cutter.proofs.Accepted.{accepted-of, map-asked}
 use Rattle.cutter.proofs.Points.{centre-at, same-centre, x-lifted, y-lifted}
 use Rattle.cutter.proofs.Lifted.{lifted-to}
 use Rattle.cutter.proofs.Entries.{list_held, trailer_front, list-end}
-use Rattle.plate.specs.declared.ListReply.{ListReply}
 use Rattle.plate.specs.List.{ListCall}
 use Rattle.theorems.specs.Lifted.{centre_in, LiftedFrom}
 
-module _ (rule : Rule) (rounding : ℕ) (m before after : List ℕ) (reply : ListReply) (c : ListCall rule rounding m before reply after) (z : reply.refusal ≡ 0) where
+module _ (rule : Rule) (rounding : ℕ) (m before after : List ℕ) (reply : Result ℕ Refusal) (c : ListCall rule rounding m before reply after) (z : refusal_of reply ≡ 0) where
   asked : list_refusal rounding m (length before) ≡ 0
-  asked = sym (ap (λ (x : ListReply). x.refusal) c.answers) ∙ z
+  asked = sym c.refuses ∙ z
 
   held : ListHeld rule rounding m before
   held = list_held rule rounding m before asked
@@ -36,16 +38,16 @@ module _ (rule : Rule) (rounding : ℕ) (m before after : List ℕ) (reply : Lis
   entry-is n j h l = ap (λ (b : List ℕ). entry_at b n j) c.leaves ∙ held.entry n j h l
 
   -- and the trailer stands behind them
-  end_is : drop (12 * count_of (width_of m) (depth_of m)) (take reply.length after) ≡ trailer_front m ++ half_bytes (number_of (mode_of rounding))
+  end_is : drop (12 * count_of (width_of m) (depth_of m)) (take (answer_of reply) after) ≡ trailer_front m ++ half_bytes (number_of (mode_of rounding))
   end_is =
-      rw (c.answers, c.leaves, held.reported)
+      rw (c.reports, c.leaves, held.reported)
       (ap (drop (12 * count_of (width_of m) (depth_of m))) held.front ∙ list-end rule (mode_of rounding) m)
 
-pub list-calls-lifted : (rounding : ℕ) (m a b first lifted : List ℕ) (one other : ListReply)
+pub list-calls-lifted : (rounding : ℕ) (m a b first lifted : List ℕ) (one other : Result ℕ Refusal)
     → ListCall Touching rounding m a one first
     → ListCall Lifted rounding m b other lifted
-    → one.refusal ≡ 0
-    → other.refusal ≡ 0
+    → refusal_of one ≡ 0
+    → refusal_of other ≡ 0
     → LiftedFrom m one other first lifted
 list-calls-lifted rounding m a b first lifted one other c d r s =
     let mode = mode_of rounding in

@@ -3,11 +3,13 @@ use mathlib.Core.Path.{◌≡◌, refl}
 use mathlib.Core.Bool.{false}
 use Prim.Native.Nat.{ℕ, ◌/◌, ◌%◌, ◌^◌, ◌<◌}
 use native.Mathlib.Omega.{arith}
+use Rattle.std.specs.Prelude.{Result, Some, None}
+use Rattle.kinds.specs.declared.Refusal.{Refusal}
+use Rattle.kinds.specs.Refusal.{refusal_of}
 use Rattle.kinds.specs.Rounding.{is_rounding}
 use Rattle.plate.specs.Packed.{packed}
-use Rattle.plate.specs.Record.{rounding_number, record_for_c}
-use Rattle.plate.specs.declared.ListRounding.TheVariants.{Unknown, Known}
-use Rattle.plate.specs.declared.RecordReply.{RecordReply}
+use Rattle.plate.specs.declared.ListRecord.{ListRecord}
+use Rattle.plate.specs.Record.{told_of, rounding_number, record_for_c}
 
 -- what the bits of a packed reply say is what was packed: bits 0 to 31 the answer, bits 32 to 39 the status, the bits above the refusal
 pub unpacked : (refusal status answer : ℕ) → status < 256 → answer < 2 ^ 32
@@ -15,18 +17,18 @@ pub unpacked : (refusal status answer : ℕ) → status < 256 → answer < 2 ^ 3
 unpacked refusal status answer s a = (omega arith, omega arith, omega arith)
 
 -- C gets the number of a rounding that is known, and for unknown one that is no rounding's
-pub rounding-told : (n : ℕ) → rounding_number (Known (record { 0 = n })) ≡ n
+pub rounding-told : (n : ℕ) → rounding_number (Some (record { 0 = n })) ≡ n
 rounding-told n = refl
 
-pub unknown-is-none : is_rounding (rounding_number Unknown) ≡ false
+pub unknown-is-none : is_rounding (rounding_number None) ≡ false
 unknown-is-none = refl
 
 -- and every other number of a record's reply as it is
-pub sizes-told : (r : RecordReply)
-    → ((record_for_c r).refusal ≡ r.refusal) × ((record_for_c r).width ≡ r.width) × ((record_for_c r).depth ≡ r.depth)
-    × ((record_for_c r).step ≡ r.step) × ((record_for_c r).radius ≡ r.radius)
+pub sizes-told : (r : Result ListRecord Refusal)
+    → ((record_for_c r).refusal ≡ refusal_of r) × ((record_for_c r).width ≡ (told_of r).width) × ((record_for_c r).depth ≡ (told_of r).depth)
+    × ((record_for_c r).step ≡ (told_of r).step) × ((record_for_c r).radius ≡ (told_of r).radius)
 sizes-told r = (refl, refl, refl, refl, refl)
 
-pub coordinates-told : (r : RecordReply)
-    → ((record_for_c r).x ≡ r.x) × ((record_for_c r).y ≡ r.y) × ((record_for_c r).z ≡ r.z)
+pub coordinates-told : (r : Result ListRecord Refusal)
+    → ((record_for_c r).x ≡ (told_of r).x) × ((record_for_c r).y ≡ (told_of r).y) × ((record_for_c r).z ≡ (told_of r).z)
 coordinates-told r = (refl, refl, refl)

@@ -1,28 +1,31 @@
 -- The rows of document 01's table that are marked P, together. Assumes nothing.
-use mathlib.Core.Path.{◌≡◌, refl}
+use mathlib.Core.Path.{◌≡◌, refl, ◌∙◌}
 use Prim.Native.Nat.{ℕ}
 use lib.Dec.{T, le→leb}
 use Rattle.kinds.specs.Operation.{is_operation, op_of}
 use Rattle.kinds.specs.Rounding.{is_rounding, mode_of}
 use Rattle.significand.specs.Call.{raw_refusal, raw_answer}
 use Rattle.significand.proofs.Accepted.{unrefused as raw-unrefused}
+use Rattle.significand.proofs.Asked.{raw-refusal, raw-answer}
 use Rattle.significand.proofs.Rows.{raw-rows}
 use Rattle.ieee.specs.Format.{binary32}
 use Rattle.ieee.specs.Answer.{answer, answer_of}
-use Rattle.ieee.proofs.Accepted.{unrefused, accepted-bits, accepted-status}
+use Rattle.ieee.proofs.Accepted.{unrefused}
 use Rattle.ieee.proofs.Rows.{pattern-rows}
 use Rattle.cutter.proofs.Rows.{offset-row}
+use Rattle.plate.specs.Raw.{raw_call}
+use Rattle.plate.proofs.Numbers.{accepted-is, binary32-accepted}
 use Rattle.theorems.specs.Table.{RawGives, Gives, Table}
 
 -- an accepted call gives the row's answer
 raw-gives : (operation y p g : ℕ) → raw_refusal operation y p ≡ 0 → raw_answer operation y p ≡ g → RawGives operation y p g
-raw-gives operation y p g e f = rw (e, f)
+raw-gives operation y p g e f = accepted-is (raw_call operation y p) g (raw-refusal operation y p ∙ e) (raw-answer operation y p ∙ f)
 
 gives : (operation rounding operand bits flags : ℕ) → T (is_operation operation) → T (is_rounding rounding)
     → answer_of binary32 (op_of operation) (mode_of rounding) operand ≡ answer bits flags → Gives operation rounding operand bits flags
 gives operation rounding operand bits flags o r e s =
     let a = unrefused operation rounding o r in
-    rw (a, accepted-bits binary32 0 (op_of operation) (mode_of rounding) operand refl, accepted-status binary32 0 (op_of operation) (mode_of rounding) operand refl s.flags, e)
+    binary32-accepted operation rounding operand s a ∙ rw e refl
 
 pub table : Table
 table =

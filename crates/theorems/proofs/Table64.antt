@@ -9,25 +9,23 @@ use Rattle.significand.specs.Width.{k64, t64}
 use Rattle.significand.specs.Steps.{index_of, factor_of, sign_of, reduced_of, sum_of, multiplier_of, raw_of}
 use Rattle.significand.specs.Rows.{Worked}
 use Rattle.significand.proofs.Accepted.{accepted64-answer}
+use Rattle.significand.proofs.Asked.{raw64-refusal, raw64-answer}
 use Rattle.ieee.specs.Format.{binary64}
 use Rattle.ieee.specs.Answer.{answer, answer_of}
 use Rattle.ieee.specs.Rows64.{Row, rows64, Answers}
-use Rattle.ieee.proofs.Accepted.{accepted-bits, accepted-status}
 use Rattle.ieee.proofs.Rows.{every, rows64-answered}
+use Rattle.plate.specs.Raw64.{raw64_call}
+use Rattle.plate.proofs.Numbers.{accepted-is, binary64-accepted}
 use Rattle.theorems.specs.Table64.{Raw64Gives, Gives64, RowGives, Table64}
 
 raw-gives : (operation y p g : ℕ) → raw_of k64 t64 (op_of operation) y p ≡ g → Raw64Gives operation y p g
-raw-gives operation y p g e tables a = rw (accepted64-answer operation y p tables a ∙ e, a)
+raw-gives operation y p g e tables a =
+    accepted-is (raw64_call operation y p tables) g (raw64-refusal operation y p tables ∙ a) (raw64-answer operation y p tables ∙ accepted64-answer operation y p tables a ∙ e)
 
 gives : (operation rounding operand bits flags : ℕ) → answer_of binary64 (op_of operation) (mode_of rounding) operand ≡ answer bits flags
     → Gives64 operation rounding operand bits flags
 gives operation rounding operand bits flags e s tables a =
-    rw (
-      accepted-bits binary64 _ (op_of operation) (mode_of rounding) operand a,
-      accepted-status binary64 _ (op_of operation) (mode_of rounding) operand a s.flags,
-      a,
-      e,
-    )
+    binary64-accepted operation rounding operand s tables a ∙ rw e refl
 
 row : (r : Row) → Answers r → RowGives r
 row r a =

@@ -1,19 +1,18 @@
 -- A list of a map, read back by the record call. Assumes nothing.
-use Rattle.std.specs.Prelude.{◌≡◌, List, ℕ, ◌≤◌, ◌<◌, Err}
+use Rattle.std.specs.Prelude.{◌≡◌, List, ℕ, ◌≤◌, ◌<◌, Option, Result, Ok, Err}
 use Rattle.kinds.specs.Rounding.{mode_of}
 use Rattle.kinds.specs.declared.Rule.{Rule}
+use Rattle.kinds.specs.declared.Refusal.TheVariants.{Index}
 use Rattle.cutter.specs.Map.{width_of, depth_of, step_of, radius_of}
 use Rattle.cutter.specs.List.{count_of, centre_at}
-use Rattle.kinds.specs.declared.Refusal.TheVariants.{Index}
-use Rattle.plate.specs.declared.ListRounding.{ListRounding}
-use Rattle.plate.specs.declared.RecordReply.{RecordReply}
-use Rattle.plate.specs.Record.{record_of, record_call}
+use Rattle.plate.specs.declared.Rounding.{Rounding}
+use Rattle.plate.specs.declared.ListRecord.{ListRecord}
+use Rattle.plate.specs.Record.{record_call}
 
 -- what is told of the rounding, the sizes of the map m, and the centre of its inner point n by a rule and in a rounding
-abbrev pub centre_read : Rule → ListRounding → ℕ → List ℕ → ℕ → RecordReply
+abbrev pub centre_read : Rule → Option Rounding → ℕ → List ℕ → ℕ → ListRecord
 centre_read rule told rounding m n =
     record {
-      refusal = 0;
       rounding = told;
       width = width_of m;
       depth = depth_of m;
@@ -25,6 +24,6 @@ centre_read rule told rounding m n =
     }
 
 -- the list tells that of its rounding, and holds the map's sizes and its centres by the rule and in the rounding, one record an inner point, and no other
-pub record ReadBack (rule : Rule) (told : ListRounding) (rounding : ℕ) (m list : List ℕ) : Type 0 where
-  pub each : (n : ℕ) → n < count_of (width_of m) (depth_of m) → record_call list n ≡ centre_read rule told rounding m n
-  pub beyond : (n : ℕ) → count_of (width_of m) (depth_of m) ≤ n → record_call list n ≡ record_of (Err Index)
+pub record ReadBack (rule : Rule) (told : Option Rounding) (rounding : ℕ) (m list : List ℕ) : Type 0 where
+  pub each : (n : ℕ) → n < count_of (width_of m) (depth_of m) → record_call list n ≡ Ok (centre_read rule told rounding m n)
+  pub beyond : (n : ℕ) → count_of (width_of m) (depth_of m) ≤ n → record_call list n ≡ Err Index

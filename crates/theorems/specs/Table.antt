@@ -1,5 +1,5 @@
 -- Document 01's table for proof, as statements about the calls. Assumes nothing.
-use Rattle.std.specs.Prelude.{◌≡◌, ℕ, ◌+◌, ◌%◌, ◌≤◌}
+use Rattle.std.specs.Prelude.{◌≡◌, ℕ, ◌+◌, ◌%◌, ◌≤◌, Ok}
 use Rattle.std.specs.Int.Bits.{bit_or}
 use Rattle.kinds.specs.Flag.{no_flag, overflow, inexact}
 use Rattle.significand.specs.Width.{k32, t32}
@@ -11,12 +11,12 @@ use Rattle.plate.specs.Binary32.{binary32_call}
 
 -- the raw call is accepted and answers g
 abbrev pub RawGives : ℕ → ℕ → ℕ → ℕ → Type 0
-RawGives operation y p g = raw_call operation y p ≡ record { refusal = 0; answer = g }
+RawGives operation y p g = raw_call operation y p ≡ Ok g
 
 -- the binary32 call is accepted, answers the bits, and joins the flags to those that stood, whatever the status
 abbrev pub Gives : ℕ → ℕ → ℕ → ℕ → ℕ → Type 0
 Gives operation rounding operand bits flags =
-    (s : Status) → binary32_call operation rounding operand s ≡ record { refusal = 0; bits = bits; status = record { flags = bit_or (s.flags % 32) flags } }
+    (s : Status) → binary32_call operation rounding operand s ≡ record { status = record { flags = bit_or (s.flags % 32) flags }; answer = Ok bits }
 
 -- the rows marked P
 pub record Table : Type 0 where

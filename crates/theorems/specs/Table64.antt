@@ -1,5 +1,5 @@
 -- Rows of binary64 and of the raw unit at k = 15, as statements about the calls. Assumes nothing.
-use Rattle.std.specs.Prelude.{◌≡◌, List, ℕ, ◌%◌}
+use Rattle.std.specs.Prelude.{◌≡◌, List, ℕ, ◌%◌, Ok}
 use Rattle.std.specs.Int.Bits.{bit_or}
 use Rattle.significand.specs.Width.{k64, t64}
 use Rattle.significand.specs.Call.{raw64_refusal}
@@ -13,12 +13,12 @@ use Rattle.plate.specs.Binary64.{binary64_call}
 -- an accepted raw call answers g, whatever slice it is lent
 abbrev pub Raw64Gives : ℕ → ℕ → ℕ → ℕ → Type 0
 Raw64Gives operation y p g = (tables : List ℕ) → raw64_refusal operation y p tables ≡ 0
-    → raw64_call operation y p tables ≡ record { refusal = 0; answer = g }
+    → raw64_call operation y p tables ≡ Ok g
 
 -- an accepted binary64 call answers the bits and joins the flags to those that stood, whatever the status and the lent slice
 abbrev pub Gives64 : ℕ → ℕ → ℕ → ℕ → ℕ → Type 0
 Gives64 operation rounding operand bits flags = (s : Status) (tables : List ℕ) → binary64_refusal operation rounding operand tables ≡ 0
-    → binary64_call operation rounding operand s tables ≡ record { refusal = 0; bits = bits; status = record { flags = bit_or (s.flags % 32) flags } }
+    → binary64_call operation rounding operand s tables ≡ record { status = record { flags = bit_or (s.flags % 32) flags }; answer = Ok bits }
 
 -- in the four roundings
 pub record RowGives (r : Row) : Type 0 where

@@ -1,10 +1,8 @@
--- `plate::fill_tables` meets its contract: a reply by cases and the same in numbers. Assumes nothing.
-use Rattle.std.proofs.Common.{length}
-use Rattle.plate.proofs.Replies.{filling-ok, filling-err}
+-- `plate::fill_tables` meets its contract: the reply is the published number. Assumes nothing.
+use mathlib.Core.Path.{ap, ◌∙◌}
+use Rattle.kinds.specs.Refusal.{refusal_of}
+use Rattle.significand.proofs.Asked.{filling-refusal}
 use Rattle.plate.proofs.fill_tables.Goals as goal
 
-pub returns-in-Ok-clause-value : goal.returns-in-Ok-clause-value
-returns-in-Ok-clause-value c = filling-ok (length c.args.tables.now) c.in-Ok.ensures.value
-
-pub returns-in-Err-clause-value : goal.returns-in-Err-clause-value
-returns-in-Err-clause-value c = rw c.number.ensures (filling-err (length c.args.tables.now) c.in-Err.refusal c.in-Err.ensures.value)
+pub returns-clause-numbers : goal.returns-clause-numbers
+returns-clause-numbers c = ap refusal_of c.call.ensures.value ∙ filling-refusal _

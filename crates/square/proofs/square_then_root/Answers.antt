@@ -15,7 +15,7 @@ float_from_bits-result c = search root-asked
 
 -- an `f32` is a number that the format holds
 pub returns-clause-value : goal.returns-clause-value
-returns-clause-value c = (root-returned _ _ _ c.binary32-reply.ensures (subst T (sym c.well_formed.0.1) tt)).0
+returns-clause-value c = (root-returned _ _ _ _ c.binary32-reply.ensures.value c.unwrap.ensures (subst T (sym c.well_formed.0.1) tt)).0
 
 pub returns-clause-comes_back : goal.returns-clause-comes_back
-returns-clause-comes_back c = (root-returned _ _ _ c.binary32-reply.ensures (subst T (sym c.well_formed.0.1) tt)).1
+returns-clause-comes_back c = (root-returned _ _ _ _ c.binary32-reply.ensures.value c.unwrap.ensures (subst T (sym c.well_formed.0.1) tt)).1
