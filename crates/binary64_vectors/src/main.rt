@@ -13,8 +13,7 @@ ghost use Rattle.std.specs.Iterator.{at_most};
 use input::{digested, read_full};
 use lines::Reader;
 use plate::{Operation, Refusal, Rounding, Status};
-use std::io;
-use std::mem;
+use std::{io, mem};
 
 // The most bytes of text.
 const SIZE: usize = 1048576;

@@ -1,12 +1,9 @@
 -- Replies of the lower calls, in cases. Assumes nothing.
-use Rattle.std.specs.Prelude.{◌≡◌, ℕ, eqb, cond, List, length, Result, Ok, Err, ⊤}
-use mathlib.Core.Path.{refl, sym, ap, subst, ◌∙◌}
+use Rattle.std.specs.Prelude.{◌≡◌, ℕ, List, Result, Ok, Err}
+use mathlib.Core.Path.{refl}
 use Rattle.kinds.specs.declared.Refusal.{Refusal}
 use Rattle.kinds.specs.declared.Refusal.TheVariants as R
 use Rattle.kinds.specs.Refusal.{refusal_of, answer_of}
-
-use Rattle.significand.specs.Call.{raw_refusal, raw_answer, raw64_refusal, raw64_answer, fill_refusal}
-use Rattle.ieee.specs.Call.{binary32_refusal, binary32_bits, binary32_status}
 use Rattle.binary64.specs.Call.{binary64_refusal, binary64_bits, binary64_status}
 use Rattle.plate.specs.declared.Status.{Status}
 use Rattle.plate.specs.declared.Reply.{Reply}
@@ -44,4 +41,3 @@ pub binary64-from : (operation rounding b : ℕ) (s : Status) (tables : List ℕ
     → record { status = record { flags = binary64_status operation rounding b s.flags tables }; answer = numbered (binary64_refusal operation rounding b tables) (binary64_bits operation rounding b tables) } ≡ binary64_call operation rounding b s tables
 binary64-from operation rounding b s tables =
     whole _ _ _ (binary64-raised operation rounding b s tables) (from-numbers (binary64_call operation rounding b s tables).answer _ _ (binary64-refused operation rounding b s tables) (binary64-answered operation rounding b s tables))
-

@@ -1,5 +1,5 @@
 -- What a list call gives in numbers, and that a length reported is a number of 32 bits. Assumes nothing.
-use Rattle.std.specs.Prelude.{Result, Ok, Err}
+use Rattle.std.specs.Prelude.{Result, Ok}
 use mathlib.Core.Path.{◌≡◌, sym, ap, ◌∙◌}
 use mathlib.Core.List.{List}
 use mathlib.Core.Logic.{by_cases}
@@ -9,15 +9,13 @@ use native.Mathlib.Omega.{arith}
 use lib.ListN.{length}
 use Rattle.kinds.specs.declared.Refusal.{Refusal}
 use Rattle.kinds.specs.declared.Rule.{Rule}
-use Rattle.kinds.specs.declared.Mode.{Mode}
-use Rattle.kinds.specs.Rounding.{number_of}
-use Rattle.kinds.specs.Refusal.{refusal_of, answer_of, rounding_asked}
+use Rattle.kinds.specs.Refusal.{refusal_of, answer_of}
 use Rattle.cutter.specs.Map.{width_of, depth_of}
 use Rattle.cutter.specs.Call.{list_refusal, list_answer, buffer_after}
 use Rattle.cutter.proofs.Counts.{count_most}
 use Rattle.cutter.proofs.Lengths.{list-length-is}
 use Rattle.cutter.proofs.Accepted.{accepted-of, map-asked, accepted-answer, refused-answer}
-use Rattle.cutter.proofs.Asked.{call-number, call-answer, buffer-known, buffer-unknown}
+use Rattle.cutter.proofs.Asked.{call-number, call-answer}
 use Rattle.plate.specs.List.{list_call, ListCall}
 
 -- the reply by cases says the published numbers

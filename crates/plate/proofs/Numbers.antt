@@ -1,13 +1,11 @@
 -- The replies in numbers: each call gives the number of the first question that is answered "no", or 0, and the answer, 0 after a "no".
 -- Assumes nothing.
-use Rattle.std.specs.Prelude.{◌≡◌, ℕ, zero, suc, ◌%◌, ◌<◌, Bool, true, false, cond, eqb, List, length, Result, Ok, Err, ⊤}
+use Rattle.std.specs.Prelude.{◌≡◌, ℕ, ◌%◌, ◌<◌, Bool, true, false, cond, eqb, List, Result, Ok, Err}
 use Rattle.std.specs.Int.Bits.{bit_or}
-use mathlib.Core.Path.{refl, sym, ap, subst, ◌∙◌}
+use mathlib.Core.Path.{refl, ap, ◌∙◌}
 use native.Mathlib.Nat.{mod-eq_of_lt}
 use native.Mathlib.Omega.{arith}
-use borrow.Author.Tests.{ne_eqb}
 use Rattle.kinds.specs.declared.Refusal.{Refusal}
-use Rattle.kinds.specs.declared.Refusal.TheVariants as R
 use Rattle.kinds.specs.Operation.{op_of}
 use Rattle.kinds.specs.Rounding.{mode_of}
 use Rattle.kinds.specs.Question.{ask, then_ask}
@@ -26,7 +24,7 @@ use Rattle.plate.specs.declared.Reply.{Reply}
 use Rattle.plate.specs.Status.{raised}
 use Rattle.plate.specs.Raw.{raw_call}
 use Rattle.plate.specs.Raw64.{raw64_call}
-use Rattle.pattern.specs.Answer.{Answered, Replied}
+use Rattle.pattern.specs.Answer.{Replied}
 use Rattle.pattern.specs.declared.answer.Rounded.{Rounded}
 use Rattle.plate.specs.Rounded.{bits_of, status_after, replied}
 use Rattle.plate.specs.Binary32.{binary32_call}

@@ -1,7 +1,7 @@
 -- What the record call gives in numbers. Assumes nothing.
 use Rattle.std.specs.Prelude.{cond, Bool, true, false, eqb, Result, Ok, Err}
 use Rattle.std.specs.Bool.{then_some}
-use mathlib.Core.Path.{◌≡◌, refl, sym, ap, ◌∙◌}
+use mathlib.Core.Path.{◌≡◌, refl, sym, ◌∙◌}
 use mathlib.Core.List.{List}
 use Prim.Native.Nat.{ℕ, ◌≤◌}
 use native.Mathlib.Omega.{arith}
@@ -38,7 +38,8 @@ stated false n h = refl
 pub record-numbers : (b : List ℕ) (index : ℕ) (r : Result ListRecord Refusal) → r ≡ record_call b index
     → (refusal_of r ≡ record_refusal b index) × (told_of r ≡ record_told b index)
 record-numbers b index r e =
-    rw e
-    (same-number (record_asked b index) ∙ record-number b index,
-    told-by (record_asked b index) (record_refusal b index) (record_read b index) (record-number b index)
-    (λ z. rw (record-accepted b index z, stated (is_rounded (list_kind b)) (list_trailer b).rounding (record-held b index z).0.rounding) refl))
+    rw e (
+      same-number (record_asked b index) ∙ record-number b index,
+      told-by (record_asked b index) (record_refusal b index) (record_read b index) (record-number b index)
+          (λ z. rw (record-accepted b index z, stated (is_rounded (list_kind b)) (list_trailer b).rounding (record-held b index z).0.rounding) refl),
+    )

@@ -1,5 +1,5 @@
 -- A reply from its numbers. Assumes nothing.
-use Rattle.std.specs.Prelude.{ℕ, Bool, true, false, Result, Ok, Err, eqb, cond}
+use Rattle.std.specs.Prelude.{ℕ, Result, Ok, Err, eqb, cond}
 use Rattle.kinds.specs.declared.Refusal.{Refusal}
 use Rattle.kinds.specs.declared.Refusal.TheVariants as R
 

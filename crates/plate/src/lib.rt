@@ -25,7 +25,6 @@ ghost use Rattle.plate.specs.Record.{record_call, record_told, told_of};
 ghost use Rattle.plate.specs.Numbered.{numbered};
 
 pub use kinds::Refusal;
-
 use kinds::{Flags, Mode, Op, Rule, joined};
 use pattern::answer::Rounded;
 
@@ -212,11 +211,7 @@ pub fn binary32(operation: Operation, rounding: Rounding, bits: u32, status: Sta
 
 // Questions 1 and 2, and the answer with the flags that it raises.
 #[inline(always)]
-fn binary32_rounded(
-    operation: Operation,
-    rounding: Rounding,
-    bits: u32,
-) -> Result<Rounded, Refusal>
+fn binary32_rounded(operation: Operation, rounding: Rounding, bits: u32) -> Result<Rounded, Refusal>
     ensures { Replied binary32 (binary32_asked operation.0 rounding.0 bits) result }
 {
     let op = Op::try_from(operation)?;
@@ -258,12 +253,7 @@ pub fn lifted_list(rounding: Rounding, map: &[u8], buffer: &mut [u8]) -> Result<
     list_by(Rule::Lifted, rounding, map, buffer)
 }
 
-fn list_by(
-    rule: Rule,
-    rounding: Rounding,
-    map: &[u8],
-    buffer: &mut [u8],
-) -> Result<usize, Refusal>
+fn list_by(rule: Rule, rounding: Rounding, map: &[u8], buffer: &mut [u8]) -> Result<usize, Refusal>
     ensures { ListCall rule rounding.0 map.now buffer.old result buffer.new }
 {
     listing::call(rule, Mode::try_from(rounding)?, map, buffer)

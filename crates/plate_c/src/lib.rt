@@ -4,13 +4,15 @@
 
 ghost use Rattle.std.specs.Prelude.{◌≡◌, length};
 ghost use Rattle.kinds.specs.declared.Rule.TheVariants.{Touching, Lifted};
-ghost use Rattle.significand.specs.Call.{raw_refusal, raw_answer, fill_refusal, slice_after};
+ghost use Rattle.significand.specs.Call.{raw_refusal, raw_answer, raw64_refusal, raw64_answer, fill_refusal, slice_after};
 ghost use Rattle.ieee.specs.Call.{binary32_refusal, binary32_bits, binary32_status};
+ghost use Rattle.binary64.specs.Call.{binary64_refusal, binary64_bits, binary64_status};
 ghost use Rattle.cutter.specs.Call.{list_refusal, list_answer, buffer_after};
 ghost use Rattle.plate.specs.Packed.{packed};
-ghost use Rattle.plate.specs.Raw64.{raw64_call};
+ghost use Rattle.plate.specs.Raw64.{raw64_call, raw64_for_c};
 ghost use Rattle.plate.specs.Binary64.{binary64_call, binary64_for_c};
-ghost use Rattle.plate.specs.Record.{record_call, rounding_number, record_for_c};
+ghost use Rattle.reader.specs.Reader.{record_refusal};
+ghost use Rattle.plate.specs.Record.{record_call, record_told, rounding_number, numbers_for_c, record_for_c};
 
 use plate::c::{CBinary64Reply, CRecordReply, Raw64Reply};
 use plate::{
@@ -139,7 +141,8 @@ pub extern "C" fn plate_lifted_list(rounding: u8, map: &[u8], buffer: &mut [u8])
 // The record call.
 #[unsafe(no_mangle)]
 pub extern "C" fn plate_record(list: &[u8], index: usize) -> CRecordReply
-    ensures { result ≡ record_for_c (record_call list.now index) }
+    ensures value { result ≡ record_for_c (record_call list.now index) }
+    ensures numbers { result ≡ numbers_for_c (record_refusal list.now index) (record_told list.now index) }
 {
     match record(list, index) {
         Ok(r) => record_for_c(0, r),

@@ -1,5 +1,5 @@
 -- A list of a map, read back by the record call. Assumes nothing.
-use Rattle.std.specs.Prelude.{◌≡◌, List, ℕ, ◌≤◌, ◌<◌, Option, Result, Ok, Err}
+use Rattle.std.specs.Prelude.{◌≡◌, List, ℕ, ◌≤◌, ◌<◌, Option, Ok, Err}
 use Rattle.kinds.specs.Rounding.{mode_of}
 use Rattle.kinds.specs.declared.Rule.{Rule}
 use Rattle.kinds.specs.declared.Refusal.TheVariants.{Index}

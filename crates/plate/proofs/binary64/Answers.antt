@@ -1,5 +1,4 @@
 -- `plate::binary64` meets its contract. Assumes nothing.
-use mathlib.Core.Path.{ap, ◌∙◌}
 use Rattle.plate.proofs.Numbers.{binary64-numbers}
 use Rattle.plate.proofs.Adapted.{binary64-from}
 use Rattle.plate.proofs.binary64.Goals as goal

@@ -1,13 +1,9 @@
 -- `text::put_answer` meets its contract: one law for each return. Assumes nothing.
 use Rattle.text.proofs.Whole.{too_long, refused-map, map-long, map-sizes, list-held-in, listed}
-use borrow.Author.Rules.{rules}
 use Rattle.text.proofs.put_answer.Goals as goal
 
 pub returns-then-map-gt16400 : goal.returns-then-map-gt16400
 returns-then-map-gt16400 c = search too_long
-
-pub returns-then-reply-ne0 : goal.returns-then-reply-ne0
-returns-then-reply-ne0 c = search (refused-map, c.if-reply-ne0.true)
 
 pub read_last-requires : goal.read_last-requires
 read_last-requires c = search map-long
@@ -18,5 +14,8 @@ put_list-requires-clause-sizes c = search map-sizes
 pub put_list-requires-clause-depth_in_bounds : goal.put_list-requires-clause-depth_in_bounds
 put_list-requires-clause-depth_in_bounds c = search list-held-in
 
-pub returns : goal.returns
-returns c = search listed
+pub returns-in-Ok : goal.returns-in-Ok
+returns-in-Ok c = search listed
+
+pub returns-in-Err : goal.returns-in-Err
+returns-in-Err c = search refused-map

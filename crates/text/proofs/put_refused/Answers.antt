@@ -1,6 +1,5 @@
 -- `text::put_refused` meets its contract: the word in two halves, and the number. Assumes nothing.
 use Rattle.text.proofs.Whole.{refused-put}
-use borrow.Author.Rules.{rules}
 use Rattle.text.proofs.put_refused.Goals as goal
 
 pub returns : goal.returns
