@@ -3,7 +3,7 @@
 
 ghost use Rattle.std.specs.Prelude.{◌≡◌, ◌*◌, ◌≤◌, IfOk};
 ghost use Rattle.cutter.specs.List.{count_of};
-ghost use Rattle.cutter.specs.Sizes.{is_sized, is_stepped, trailer_refusal, trailer_asked, is_whole};
+ghost use Rattle.cutter.specs.Sizes.{is_sized, is_stepped, trailer_asked, is_whole};
 ghost use Rattle.cutter.specs.Accepted.{Sizes, TrailerHeld};
 
 use kinds::Refusal;
@@ -39,26 +39,6 @@ pub fn read_trailer(bytes: &[u8], kind: Kind) -> Result<Fields, Refusal>
         return Err(Refusal::Lengths);
     }
     Ok(trailer)
-}
-
-// The number of the first question that is answered "no", or 0; the number given is that of the kind's letters.
-pub fn refusal(bytes: &[u8], kind: Kind, number: u8) -> u8
-    ensures { result ≡ trailer_refusal kind number bytes.now }
-{
-    if bytes.len() < BYTES_LEAST {
-        return 5;
-    }
-    if !ends_in(bytes, kind) {
-        return number;
-    }
-    let fields = read_last(bytes, kind);
-    if !sizes_hold(fields.width, fields.depth) {
-        return 7;
-    }
-    if !steps_hold(fields.step, fields.radius) {
-        return 8;
-    }
-    0
 }
 
 fn sizes_hold(width: usize, depth: usize) -> bool
