@@ -1,11 +1,11 @@
 -- What a list call that is not refused knows of its map and its buffer. Assumes nothing.
 use mathlib.Core.Path.{◌≡◌, refl, sym, ap, ◌∙◌}
-use mathlib.Core.Bool.{Bool, true, false, not}
+use mathlib.Core.Bool.{Bool, true, not}
 use mathlib.Core.List.{List}
 use Prim.Native.Nat.{ℕ, zero, suc, ◌+◌, ◌*◌, ◌≤◌, ◌<◌}
 use native.Mathlib.Nat.{not-suc-le-zero}
 use native.Mathlib.Omega.{arith}
-use borrow.Author.Tests.{not-true, not-false, le-leb, leb-true, eqb-true, eq-eqb, ne_eqb}
+use borrow.Author.Tests.{not-true, le-leb, leb-true, eqb-true, eq-eqb, ne_eqb}
 use lib.Dec.{leb, eqb, lit<}
 use lib.ListN.{length}
 use lib.IntN.{nat_abs}
@@ -96,14 +96,6 @@ trailed-of k number m h e =
       sizes = sizes-are t.width t.depth (sure _ a7.0);
       steps = steps-are t.step t.radius (sure _ a8.0);
     }
-
--- so of the trailer as it was read
-module _ (k : Kind) (number : ℕ) (m : List ℕ) (n : ℕ) (h : 0 < number) (e : n ≡ trailer_refusal k number m) (z : n ≡ 0) where
-  pub ending-fits : length_of k ≤ length m
-  ending-fits = (trailed-of k number m h (sym e ∙ z)).fits
-
-  pub ending-sizes : (t : Fields) → t ≡ last_fields k m → Sizes t.width t.depth
-  ending-sizes t f = rw f (trailed-of k number m h (sym e ∙ z)).sizes
 
 -- and what answers them all "yes"
 pub trailer-yes : (k : Kind) (number : ℕ) (m : List ℕ) → bytes_least ≤ length m → ends_in k m ≡ true
@@ -212,11 +204,6 @@ rounding-asked rounding m room e = leb-true rounding 3 (sure _ (yes (is_rounding
 pub two : (rounding : ℕ) (m : List ℕ) (room : ℕ) (known : Bool) → known ≡ is_rounding rounding → not known ≡ true → 2 ≡ list_refusal rounding m room
 unfolding list_refusal
 two rounding m room known e n = ask-no _ 2 _ (sym e ∙ not-true known n)
-
-pub after_two : (rounding : ℕ) (m : List ℕ) (room : ℕ) (known : Bool) (r : ℕ) → known ≡ is_rounding rounding → not known ≡ false
-    → r ≡ map_refusal m room → r ≡ list_refusal rounding m room
-unfolding list_refusal
-after_two rounding m room known r e n f = ask-yes _ 2 _ r (sym e ∙ not-false known n) f
 
 -- an accepted call reports the list's length, and leaves the list at the buffer's front
 module _ (rounding : ℕ) (m : List ℕ) where

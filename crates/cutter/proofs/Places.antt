@@ -63,17 +63,8 @@ module _ (w d c q : ℕ) where
     omega (arith, mul-le-mul_right w h.below, h.right, suc-mul (suc q) w, suc-mul q w, mul_comm w d),
   )
 
-  pub above-is : Inner w d c q → w ≤ q * w + c
-  above-is h = (around h).0
-
   pub place_in : Inner w d c q → q * w + c < w * d
   place_in h = omega (arith, around h)
-
-  pub left_in : Inner w d c q → q * w + c - 1 < w * d
-  left_in h = omega (arith, around h)
-
-  pub right-in : Inner w d c q → q * w + c + 1 < w * d
-  right-in h = omega (arith, around h, h.right)
 
   pub above_in : Inner w d c q → q * w + c - w < w * d
   above_in h = omega (arith, around h)

@@ -1,6 +1,6 @@
 -- A trailer is put by its parts, each right behind the one before. Assumes nothing.
 use mathlib.Core.Path.{◌≡◌, sym, ap, ◌∙◌}
-use mathlib.Core.Bool.{Bool, true, false}
+use mathlib.Core.Bool.{Bool, false}
 use mathlib.Core.List.{List, ◌++◌}
 use Prim.Native.Nat.{ℕ, ◌+◌, ◌≤◌}
 use native.Mathlib.Omega.{arith}
@@ -35,19 +35,7 @@ front-put at letters f l l₁ l₂ l₃ l₄ l₅ n h p q r s t =
     s ∙ splice-behind at 10 (letters ++ w ++ x) y l l₃ (simp length-append (omega arith)) (omega arith) e₃ in
     t ∙ splice-behind at 12 (letters ++ w ++ x ++ y) z l l₄ (simp length-append (omega arith)) (omega arith) e₄
 
--- the radius and the rounding, by their widths
-pub radius-word : (wide : Bool) (at x : ℕ) (l l₁ : List ℕ) → wide ≡ true
-    → l₁ ≡ splice at (word_bytes x) l → l₁ ≡ splice at (radius_bytes wide x) l
-radius-word wide at x l l₁ e p = rw e p
-
-pub radius-half : (wide : Bool) (at x : ℕ) (l l₁ : List ℕ) → wide ≡ false
-    → l₁ ≡ splice at (half_bytes x) l → l₁ ≡ splice at (radius_bytes wide x) l
-radius-half wide at x l l₁ e p = rw e p
-
-pub rounding-half : (rounded : Bool) (at x : ℕ) (l l₁ : List ℕ) → rounded ≡ true
-    → l₁ ≡ splice at (half_bytes x) l → l₁ ≡ splice at (rounding_bytes rounded x) l
-rounding-half rounded at x l l₁ e p = rw e p
-
+-- no rounding is put where the kind has none
 pub rounding-none : (rounded : Bool) (at x : ℕ) (l : List ℕ) → rounded ≡ false → l ≡ splice at (rounding_bytes rounded x) l
 rounding-none rounded at x l e = rw e (sym (splice-none at l))
 

@@ -7,14 +7,14 @@ ghost use Rattle.trailer.specs.Kinds.{length_of, radius_size, rounding_size};
 ghost use Rattle.trailer.specs.Bytes.{radius_bytes, rounding_bytes, front_bytes, trailer_bytes};
 
 use trailer::{Fields, Kind, layout_of, radius_size};
-use words::{put_four, put_half, put_word};
+use words::{put_half, put_word};
 
 // Puts the letters and the fields up to the step, which every kind has alike.
 fn put_front(out: &mut [u8], at: usize, letters: [u8; 4], fields: Fields)
     requires { at + 14 ≤ length out.old }
     ensures { out.new ≡ splice at (front_bytes letters fields) out.old }
 {
-    put_four(out, at, letters);
+    words::put(out, at, letters);
     put_word(out, at + 4, fields.distance);
     put_half(out, at + 8, fields.width as u64);
     put_half(out, at + 10, fields.depth as u64);

@@ -2,11 +2,10 @@
 use mathlib.Core.Path.{◌≡◌, refl, sym, ◌∙◌}
 use mathlib.Core.Bool.{Bool, true, false}
 use mathlib.Core.List.{List}
-use Prim.Native.Nat.{ℕ, ◌+◌, ◌*◌, ◌≤◌, ◌<◌}
-use native.Mathlib.Omega.{arith}
+use Prim.Native.Nat.{ℕ, ◌*◌, ◌≤◌}
 use lib.Dec.{ltb, lit<}
 use lib.ListN.{length}
-use borrow.Author.Tests.{le-leb, leb-true, ltb-true}
+use borrow.Author.Tests.{le-leb, leb-true}
 use Rattle.std.specs.Prelude.{cond, Ok, Err}
 use Rattle.kinds.specs.Question.{ask, then_ask}
 use Rattle.kinds.specs.Refusal.{number_of, refusal_of}
@@ -50,15 +49,6 @@ sound-of b e =
       long = whole_long k (12 * records_of b) (list_trailer b).distance (length b) (sure _ a13.0);
       rounding = leb-true (list_trailer b).rounding 3 (sure _ a2.0);
     }
-
--- a record that may be read lies before the trailer
-pub record-held : (b : List ℕ) (index : ℕ) → record_refusal b index ≡ 0 → Sound b × (12 * index + 12 ≤ length b)
-unfolding record_refusal
-record-held b index e =
-    let both = then-none (reader_refusal b) (ask (ltb index (records_of b)) 14 0) e in
-    let s : Sound b = sound-of b both.0 in
-    let h : index < records_of b = ltb-true index (records_of b) (sure _ (yes (ltb index (records_of b)) 13 0 both.1).0) in
-    (s, omega (arith, s.long))
 
 -- ---- by cases
 

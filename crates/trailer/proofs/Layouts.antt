@@ -1,17 +1,16 @@
 -- How long a trailer of each kind is, and its parts. Assumes nothing.
-use mathlib.Core.Path.{◌≡◌, refl, ap}
+use mathlib.Core.Path.{◌≡◌, refl}
 use mathlib.Core.Bool.{Bool, true, false}
 use mathlib.Core.List.{List}
 use Prim.Native.Nat.{ℕ, ◌+◌, ◌≤◌, ◌<◌}
 use native.Mathlib.Omega.{arith}
 use lib.ListN.{length, length-append}
 use Rattle.words.specs.Word.{half_bytes, word_bytes}
-use Rattle.trailer.specs.Kinds.{LayoutIs, layout_of, letters_of, length_of, is_wide, is_rounded, radius_size, rounding_size}
+use Rattle.trailer.specs.Kinds.{letters_of, length_of, is_wide, is_rounded, radius_size, rounding_size}
 use Rattle.trailer.specs.Bytes.{radius_bytes, rounding_bytes, front_bytes, trailer_bytes, radius_end}
 use Rattle.trailer.specs.declared.Kind.{Kind}
 use Rattle.trailer.specs.declared.Kind.TheVariants.{Plt1, Cut1, Cut2}
 use Rattle.trailer.specs.declared.Fields.{Fields}
-use Rattle.trailer.specs.declared.Layout.{Layout}
 
 pub length_front : (letters : List ℕ) (f : Fields) → length letters ≡ 4 → length (front_bytes letters f) ≡ 14
 unfolding front_bytes word_bytes half_bytes
@@ -28,10 +27,6 @@ length-bounds Plt1 = omega arith
 length-bounds Cut1 = omega arith
 length-bounds Cut2 = omega arith
 
-pub layout-told : (k : Kind) (y : Layout) → y ≡ layout_of k → LayoutIs k y
-layout-told k y e =
-    record { is = e; long = ap (λ (y : Layout). y.length) e; parts = rw e (length-is k); least = (length-bounds k).0; most = (length-bounds k).1 }
-
 pub length-letters : (k : Kind) → length (letters_of k) ≡ 4
 length-letters Plt1 = refl
 length-letters Cut1 = refl
@@ -46,16 +41,6 @@ pub length-rounding : (rounded : Bool) (x : ℕ) → length (rounding_bytes roun
 unfolding half_bytes
 length-rounding true x = refl
 length-rounding false x = refl
-
--- room for a radius or a rounding is room for its bytes
-pub room_word : (wide : Bool) (at n : ℕ) → wide ≡ true → at + radius_size wide ≤ n → at + 4 ≤ n
-room_word wide at n e h = rw e at h
-
-pub room-half : (wide : Bool) (at n : ℕ) → wide ≡ false → at + radius_size wide ≤ n → at + 2 ≤ n
-room-half wide at n e h = rw e at h
-
-pub room-last : (rounded : Bool) (at n : ℕ) → rounded ≡ true → at + rounding_size rounded ≤ n → at + 2 ≤ n
-room-last rounded at n e h = rw e at h
 
 -- a number of 16 bits is a radius in every kind
 pub radius-held : (wide : Bool) (x : ℕ) → x < 65536 → x < radius_end wide

@@ -10,7 +10,7 @@ use kinds::Refusal;
 use words::{half_at, reads_at, word_at};
 
 // The trailers of maps and of lists.
-#[derive(Clone, Copy)]
+#[derive(Clone, Copy, Debug, PartialEq, Eq)]
 pub enum Kind {
     Plt1,
     Cut1,
@@ -108,6 +108,7 @@ fn read_rounding(bytes: &[u8], at: usize, rounded: bool) -> u64
 }
 
 // The fields of the trailer of a kind whose first byte stands at `at`.
+#[tactic(auto, unfolding(crate::specs::Bytes::fields_at))]
 fn read(bytes: &[u8], at: usize, kind: Kind) -> Fields
     requires { at + length_of kind ≤ length bytes.now }
     ensures { TrailerRead kind bytes.now at result }
@@ -126,6 +127,7 @@ fn read(bytes: &[u8], at: usize, kind: Kind) -> Fields
 }
 
 // The fields of the trailer of a kind that the bytes end in.
+#[tactic(auto, unfolding(crate::specs::Bytes::last_fields))]
 pub fn read_last(bytes: &[u8], kind: Kind) -> Fields
     requires { length_of kind ≤ length bytes.now }
     ensures { LastRead kind bytes.now result }
@@ -135,19 +137,17 @@ pub fn read_last(bytes: &[u8], kind: Kind) -> Fields
 }
 
 // Whether the bytes end in a trailer of a kind, by its letters.
+#[tactic(auto, unfolding(crate::specs::Bytes::ends_in))]
 pub fn ends_in(bytes: &[u8], kind: Kind) -> bool
     ensures { result ≡ ends_in kind bytes.now }
 {
     let layout = layout_of(kind);
-    let letters = layout.letters;
     let end = bytes.len();
-    if end < layout.length {
-        return false;
-    }
-    reads_at(bytes, end - layout.length, letters)
+    layout.length <= end && reads_at(bytes, end - layout.length, layout.letters)
 }
 
 // The kind of a list by its trailer: CUT1 where its letters stand, and CUT2 otherwise, whether its own do or not.
+#[tactic(auto, unfolding(crate::specs::Bytes::list_kind))]
 pub fn list_kind(bytes: &[u8]) -> Kind
     ensures { result ≡ list_kind bytes.now }
 {

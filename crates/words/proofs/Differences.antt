@@ -91,14 +91,6 @@ pub signed-small : (u : ℕ) → u < 2147483648 → signed u ≡ pos u
 unfolding signed
 signed-small u h = simp (lt-ltb u 2147483648 h)
 
--- the sign and the magnitude of a word's number, by its highest bit
-pub parts_low : (u : ℕ) → u < 2147483648 → record { negative = false; magnitude = u } ≡ parts_of (signed u)
-parts_low u h = parts-pos u ∙ ap parts_of (sym (signed-small u h))
-
-pub parts-high : (u : ℕ) → u < 4294967296 → 2147483648 ≤ u → record { negative = true; magnitude = 4294967296 - u } ≡ parts_of (signed u)
-unfolding signed
-parts-high u h k = parts-lt u 4294967296 h ∙ ap parts_of (sym (simp (le-ltb u 2147483648 k)))
-
 -- the words of a word's number with a difference added
 wrapped-by : (u a b : ℕ) → u < 4294967296 → a < 2147483648 → b < 2147483648
     → word_of (signed u +ℤ sub_ℕ a b) ≡ (u + a + 4294967296 - b) % 4294967296
@@ -120,10 +112,10 @@ wrapped-by u a b hu ha hb =
     ∙ omega arith)
 
 pub wrapped-less : (t : Bool) (u m : ℕ) → u < 4294967296 → m < 2147483648 → t ≡ true
-    → (u + 4294967296 - m) % 4294967296 ≡ word_of (signed u +ℤ with_sign t m)
+    → (u + (4294967296 - m)) % 4294967296 ≡ word_of (signed u +ℤ with_sign t m)
 unfolding with_sign
 wrapped-less t u m hu hm e =
-    let f : (u + 4294967296 - m) % 4294967296 ≡ (u + 0 + 4294967296 - m) % 4294967296 = omega arith in
+    let f : (u + (4294967296 - m)) % 4294967296 ≡ (u + 0 + 4294967296 - m) % 4294967296 = omega arith in
     f
     ∙ sym (wrapped-by u 0 m hu (omega arith) hm)
     ∙ ap (λ (z : ℤ). word_of (signed u +ℤ z)) (sym (neg-pos m))

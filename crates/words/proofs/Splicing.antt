@@ -1,37 +1,44 @@
--- Laws of bytes put over bytes: stores in a row are one splice, two splices that touch are one, and what was put is read again. Assumes nothing.
+-- Laws of bytes put over bytes: a write to a part is a splice, two splices that touch are one, and what was put is read again. Assumes nothing.
 use mathlib.Core.Path.{◌≡◌, sym, ap, ap₂, ◌∙◌}
-use mathlib.Core.List.{List, [], ◌∷◌, ◌++◌, append_assoc, append-nil}
-use Prim.Native.Nat.{ℕ, ◌+◌, ◌/◌, ◌%◌, ◌≤◌, ◌<◌}
+use mathlib.Core.List.{List, [], ◌++◌, append_assoc, append-nil}
+use Prim.Native.Nat.{ℕ, ◌+◌, ◌-◌, ◌/◌, ◌%◌, ◌≤◌, ◌<◌}
 use native.Mathlib.Nat.{add_assoc, add-zero, zero-add, div-div-eq-div-mul, div-add-mod', mod-eq_of_lt, div-lt_iff_lt-mul}
-use native.Mathlib.Numerals.{add-one, add-two, add-three}
 use native.Mathlib.Omega.{arith}
 use lib.Dec.{lit<}
-use lib.ListN.{length, get_or, take, drop, set, length-append, length-take, drop_of_length-le, take-append-drop}
-use lib.Seq.{sets-eq, drop-cons, drop-append-add, take-append_seam, drop-append_seam, drop-drop}
+use lib.ListN.{length, take, drop, length-append, length-take, take-append-drop}
+use lib.Seq.{drop-append-add, take-append_seam, drop-append_seam, drop-drop}
+use Rattle.std.specs.Int.{w16, w32, to_le_bytes}
+use Rattle.std.proofs.lemmas.List.Edits.{paste_all}
+use Rattle.std.proofs.lemmas.Slice.{put_mid-paste}
+use borrow.Rule.Slice.PartMut.{put_mid}
 use Rattle.words.specs.Splice.{splice}
 use Rattle.words.specs.Word.{half_at, word_at, half_bytes, word_bytes}
 
--- four stores in a row
-pub four : (l : List ℕ) (at a b c d : ℕ) → at + 4 ≤ length l
-    → set (set (set (set l at a) (at + 1) b) (at + 2) c) (at + 3) d ≡ splice at (a ∷ b ∷ c ∷ d ∷ []) l
+-- a write to the bytes from `at` to `at + n`
+pub spliced : (at n : ℕ) (xs ys zs : List ℕ) → ys ≡ zs → length zs ≡ n → put_mid at (at + n - at) xs ys ≡ splice at zs xs
 unfolding splice
-four l at a b c d h = rw (add-one, add-two, add-three) (sets-eq (a ∷ b ∷ c ∷ d ∷ []) l at h)
+spliced at n xs ys zs e h =
+    put_mid-paste at (at + n - at) xs ys zs n e (omega arith) (sym h)
+    ∙ paste_all xs at zs n (sym h)
+    ∙ ap (λ (m : ℕ). take at xs ++ (zs ++ drop (at + m) xs)) (sym h)
+    ∙ sym (append_assoc (take at xs) zs (drop (at + length zs) xs))
 
--- two stores in a row
-pub two : (l : List ℕ) (at a b : ℕ) → at + 2 ≤ length l → set (set l at a) (at + 1) b ≡ splice at (a ∷ b ∷ []) l
-unfolding splice
-two l at a b h = rw add-one (sets-eq (a ∷ b ∷ []) l at h)
+-- the bytes that std writes of a number's last 16 or 32 bits
+pub half-low : (x : ℕ) → to_le_bytes w16 (x % 65536) ≡ half_bytes x
+unfolding half_bytes
+half-low x =
+    let a : x % 65536 % 256 ≡ x % 256 = omega arith in
+    let b : x % 65536 / 256 % 256 ≡ x / 256 % 256 = omega arith in
+    cc
 
--- a list of four, by its elements
-listed : (b : List ℕ) → length b ≡ 4 → b ≡ get_or b 0 0 ∷ get_or b 1 0 ∷ get_or b 2 0 ∷ get_or b 3 0 ∷ []
-listed b e =
-    cc (drop-cons b 0 0 (omega arith), drop-cons b 1 0 (omega arith), drop-cons b 2 0 (omega arith), drop-cons b 3 0 (omega arith), drop_of_length-le b {i = 4} (omega arith))
-
--- four stores of the bytes of an array
-pub four-of : (l b : List ℕ) (at : ℕ) → at + 4 ≤ length l → length b ≡ 4
-    → set (set (set (set l at (get_or b 0 0)) (at + 1) (get_or b 1 0)) (at + 2) (get_or b 2 0)) (at + 3) (get_or b 3 0) ≡ splice at b l
-four-of l b at h e =
-    four l at (get_or b 0 0) (get_or b 1 0) (get_or b 2 0) (get_or b 3 0) h ∙ ap (λ (x : List ℕ). splice at x l) (sym (listed b e))
+pub word-low : (x : ℕ) → to_le_bytes w32 (x % 4294967296) ≡ word_bytes x
+unfolding word_bytes
+word-low x =
+    let a : x % 4294967296 % 256 ≡ x % 256 = omega arith in
+    let b : x % 4294967296 / 256 % 256 ≡ x / 256 % 256 = omega arith in
+    let c : x % 4294967296 / 65536 % 256 ≡ x / 65536 % 256 = omega arith in
+    let d : x % 4294967296 / 16777216 % 256 ≡ x / 16777216 % 256 = omega arith in
+    cc
 
 -- bytes put at the end of a written front lengthen it
 pub splice_front : (p b l : List ℕ) (at : ℕ) → at ≡ length p

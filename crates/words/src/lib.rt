@@ -8,18 +8,12 @@ ghost use Rattle.words.specs.Splice.{splice};
 ghost use Rattle.words.specs.Signed.{signed, word_of, with_sign};
 ghost use Rattle.words.specs.Parts.{parts_of};
 
-fn wide(x: u8) -> u64
-    ensures { (result ≡ x) × (result < 256) }
-{
-    x as u64
-}
-
 // The number of the two bytes from `at` on, the lower first.
 pub fn half_at(s: &[u8], at: usize) -> u64
     requires { at + 2 ≤ length s.now }
     ensures { (result ≡ half_at s.now at) × (result < 65536) }
 {
-    wide(s[at]) + 256 * wide(s[at + 1])
+    u64::from(u16::from_le_bytes([s[at], s[at + 1]]))
 }
 
 // The number of the four bytes from `at` on, the lowest first.
@@ -27,7 +21,7 @@ pub fn word_at(s: &[u8], at: usize) -> u64
     requires { at + 4 ≤ length s.now }
     ensures { (result ≡ word_at s.now at) × (result < 4294967296) }
 {
-    wide(s[at]) + 256 * wide(s[at + 1]) + 65536 * wide(s[at + 2]) + 16777216 * wide(s[at + 3])
+    u64::from(u32::from_le_bytes([s[at], s[at + 1], s[at + 2], s[at + 3]]))
 }
 
 // Whether the four bytes from `at` on are those of a name.
@@ -35,18 +29,23 @@ pub fn reads_at(s: &[u8], at: usize, name: [u8; 4]) -> bool
     requires { at + 4 ≤ length s.now }
     ensures { result ≡ reads_at s.now at name }
 {
-    (s[at] == name[0]) & (s[at + 1] == name[1]) & (s[at + 2] == name[2]) & (s[at + 3] == name[3])
+    [s[at], s[at + 1], s[at + 2], s[at + 3]] == name
 }
 
-// Puts four bytes over those from `at` on.
+// Puts so many bytes over those from `at` on.
+pub fn put<const N: usize>(out: &mut [u8], at: usize, bytes: [u8; N])
+    requires { at + N ≤ length out.old }
+    ensures { out.new ≡ splice at bytes.entry out.old }
+{
+    out[at..at + N].copy_from_slice(&bytes);
+}
+
+// The same of four, until its last callers have moved.
 pub fn put_four(out: &mut [u8], at: usize, b: [u8; 4])
     requires { at + 4 ≤ length out.old }
     ensures { out.new ≡ splice at b out.old }
 {
-    out[at] = b[0];
-    out[at + 1] = b[1];
-    out[at + 2] = b[2];
-    out[at + 3] = b[3];
+    put(out, at, b);
 }
 
 // Puts the two bytes of a number over those from `at` on, the lower first.
@@ -54,8 +53,7 @@ pub fn put_half(out: &mut [u8], at: usize, x: u64)
     requires { at + 2 ≤ length out.old }
     ensures { out.new ≡ splice at (half_bytes x) out.old }
 {
-    out[at] = (x % 256) as u8;
-    out[at + 1] = (x / 256 % 256) as u8;
+    put(out, at, ((x % 65536) as u16).to_le_bytes());
 }
 
 // Puts the four bytes of a number over those from `at` on, the lowest first.
@@ -63,16 +61,7 @@ pub fn put_word(out: &mut [u8], at: usize, x: u64)
     requires { at + 4 ≤ length out.old }
     ensures { out.new ≡ splice at (word_bytes x) out.old }
 {
-    put_four(
-        out,
-        at,
-        [
-            (x % 256) as u8,
-            (x / 256 % 256) as u8,
-            (x / 65536 % 256) as u8,
-            (x / 16777216 % 256) as u8,
-        ],
-    );
+    put(out, at, ((x % 4294967296) as u32).to_le_bytes());
 }
 
 // A signed number by its sign and its magnitude; 0 is not negative.
@@ -87,17 +76,7 @@ pub fn signed_of(word: u64) -> Signed
     requires { word < 4294967296 }
     ensures { (result ≡ parts_of (signed word)) × (result.magnitude ≤ 2147483648) }
 {
-    if word < 2147483648 {
-        Signed {
-            negative: false,
-            magnitude: word,
-        }
-    } else {
-        Signed {
-            negative: true,
-            magnitude: 4294967296 - word,
-        }
-    }
+    parts_of(i32_of(word))
 }
 
 // The same as a number of the language.
@@ -105,27 +84,16 @@ pub fn i32_of(word: u64) -> i32
     requires { word < 4294967296 }
     ensures { result ≡ signed word }
 {
-    if word < 2147483648 {
-        word as i32
-    } else {
-        -1 - (4294967295 - word) as i32
-    }
+    (word as u32).cast_signed()
 }
 
 // The sign and the magnitude of a number of the language.
 pub fn parts_of(x: i32) -> Signed
     ensures { result ≡ parts_of x }
 {
-    if x < 0 {
-        Signed {
-            negative: true,
-            magnitude: (-1 - x) as u64 + 1,
-        }
-    } else {
-        Signed {
-            negative: false,
-            magnitude: x as u64,
-        }
+    Signed {
+        negative: x < 0,
+        magnitude: u64::from(x.unsigned_abs()),
     }
 }
 
@@ -151,10 +119,11 @@ pub fn wrapping_add_signed(u: u64, s: Signed) -> u64
     requires { (u < 4294967296) × (s.magnitude < 2147483648) }
     ensures { result ≡ word_of (signed u +ℤ with_sign s.negative s.magnitude) }
 {
-    let m = s.magnitude;
+    let u = u as u32;
+    let m = s.magnitude as u32;
     if s.negative {
-        (u + 4294967296 - m) % 4294967296
+        u64::from(u.wrapping_sub(m))
     } else {
-        (u + m) % 4294967296
+        u64::from(u.wrapping_add(m))
     }
 }

@@ -1,10 +1,8 @@
--- `words::parts_of` meets its contract: below 0 and from there on. Assumes nothing.
-use Rattle.words.proofs.Bits.{up-parts, same_parts}
-use borrow.Author.Rules.{sfits_of}
+-- `words::parts_of` meets its contract: std's magnitude, and the sign by a comparison. Assumes nothing.
+use Rattle.std.proofs.lemmas.Int.{to_z-of_z}
+use Rattle.std.specs.Int.{w32}
+use Rattle.words.proofs.Bits.{parts-are}
 use Rattle.words.proofs.parts_of.Goals as goal
 
-pub returns-then-x-lt0 : goal.returns-then-x-lt0
-returns-then-x-lt0 c = search (sfits_of, up-parts)
-
-pub returns-else-x-lt0 : goal.returns-else-x-lt0
-returns-else-x-lt0 c = search (sfits_of, same_parts)
+pub returns : goal.returns
+returns c = cc (parts-are c.args.x, to_z-of_z w32 c.args.x c.ranges.x)

@@ -1,10 +1,12 @@
--- `words::signed_of` meets its contract: a law for either value of the highest bit. Assumes nothing.
-use borrow.Author.Rules.{rules}
-use Rattle.words.proofs.Differences.{parts_low, parts-high}
+-- `words::signed_of` meets its contract: the parts of the word's number. Assumes nothing.
+use Rattle.std.proofs.Common.{ap, ◌∙◌}
+use Rattle.std.proofs.lemmas.Int.{to_z-of_z}
+use Rattle.std.specs.Int.{w32}
+use Rattle.words.specs.Parts.{parts_of}
+use Rattle.words.proofs.Bits.{magnitude-most}
 use Rattle.words.proofs.signed_of.Goals as goal
 
-pub returns-then-word-lt2147483648 : goal.returns-then-word-lt2147483648
-returns-then-word-lt2147483648 c = (search parts_low, search rules)
-
-pub returns-else-word-lt2147483648 : goal.returns-else-word-lt2147483648
-returns-else-word-lt2147483648 c = (search parts-high, search rules)
+pub returns : goal.returns
+returns c =
+    let back = to_z-of_z w32 c.i32_of.result (record { sfits = c.i32_of.type_inv }) in
+    (c.parts_of.ensures ∙ ap parts_of (back ∙ c.i32_of.ensures), magnitude-most _ _ (c.parts_of.ensures ∙ ap parts_of back) c.i32_of.type_inv)
