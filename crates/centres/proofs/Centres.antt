@@ -1,5 +1,5 @@
 -- The offsets and the centre at a point, as the code works them out. Assumes nothing.
-use mathlib.Core.Path.{◌≡◌, refl, sym, ap, subst, ◌∙◌}
+use mathlib.Core.Path.{◌≡◌, refl, ap, subst, ◌∙◌}
 use mathlib.Core.List.{List}
 use Prim.Native.Nat.{ℕ, ◌+◌, ◌*◌, ◌^◌, ◌≤◌, ◌<◌}
 use native.Mathlib.Nat.{mul-le-mul}
@@ -24,10 +24,10 @@ use Rattle.offset.specs.declared.Component.{Component}
 use Rattle.trailer.specs.declared.Fields.{Fields}
 use Rattle.cutter.specs.Map.{Inner, height_at, dx_at, dy_at}
 use Rattle.cutter.specs.Centre.{centre_of, point_at, record_bytes}
-use Rattle.cutter.specs.Limits.{side_most, step_most, difference_most}
+use Rattle.cutter.specs.Limits.{side_most, step_most}
 use Rattle.cutter.specs.Accepted.{Sizes, Steps}
 use Rattle.normals.specs.Normal.{NormalOf, Measured}
-use Rattle.centres.specs.Prepared.{signed_of, ComponentOf, squared_of, PreparedOf}
+use Rattle.centres.specs.Prepared.{signed_of, squared_of, PreparedOf}
 use Rattle.centres.specs.Words.{offset_parts, up_of, offsets_of, words_bytes}
 use Rattle.normals.specs.declared.Normal.{Normal}
 use Rattle.centres.specs.declared.Offsets.{Offsets}
@@ -36,21 +36,18 @@ use Rattle.centres.specs.declared.Words.{Words}
 
 -- ---- a point that is prepared
 
-component-made : (z : ℤ) (s : Signed) (c : Component) → s ≡ parts_of z → s.magnitude ≤ difference_most → signed_of c ≡ s
-    → c.square ≡ s.magnitude * s.magnitude → ComponentOf z c
-component-made z s c e h k l =
-    let same : s.magnitude ≡ c.magnitude = sym (ap (λ (x : Signed). x.magnitude) k) in
-    record { parts = k ∙ e; most = omega arith; square = l ∙ ap (λ (x : ℕ). x * x) same }
-
 -- by the normal at it
 pub prepared-is : (m : List ℕ) (t : Fields) (column row : ℕ) (n : Normal) (x y : Component) (scale : ℕ)
     → NormalOf (dx_at m t.width column row) (dy_at m t.width column row) n → Measured n t.step
-    → signed_of x ≡ n.x → x.square ≡ n.x.magnitude * n.x.magnitude → signed_of y ≡ n.y → y.square ≡ n.y.magnitude * n.y.magnitude
-    → ScaleOf n.squared t.radius scale → PreparedOf m t column row (record { x = x; y = y; scale = scale })
-prepared-is m t column row n x y scale f g ex sx ey sy e =
+    → signed_of x ≡ n.x → signed_of y ≡ n.y → ScaleOf n.squared t.radius scale → PreparedOf m t column row (record { x = x; y = y; scale = scale })
+prepared-is m t column row n x y scale f g ex ey e =
+    let mx : x.magnitude ≡ n.x.magnitude = ap (λ (s : Signed). s.magnitude) ex in
+    let my : y.magnitude ≡ n.y.magnitude = ap (λ (s : Signed). s.magnitude) ey in
+    let sx : x.square ≡ n.x.magnitude * n.x.magnitude = x.squared ∙ ap (λ k. k * k) mx in
+    let sy : y.square ≡ n.y.magnitude * n.y.magnitude = y.squared ∙ ap (λ k. k * k) my in
     record {
-      x = component-made (neg_ℤ (dx_at m t.width column row)) n.x x f.x g.x-most ex sx;
-      y = component-made (neg_ℤ (dy_at m t.width column row)) n.y y f.y g.y-most ey sy;
+      x = ex ∙ f.x;
+      y = ey ∙ f.y;
       scale = subst (λ (q : ℕ). ScaleOf q t.radius scale) (omega (arith, g.squared)) e;
     }
 
@@ -69,8 +66,7 @@ square-fits s h = omega (arith, mul-le-mul h h)
 pub step_fits : (step radius : ℕ) → Steps step radius → Fits w64 (4 * step * step)
 step_fits step radius g = omega (arith, mul-le-mul g.step-most g.step-most)
 
-module _ (p : Prepared) (step radius : ℕ) (mx : p.x.magnitude ≤ length_most) (sx : p.x.square ≡ p.x.magnitude * p.x.magnitude)
-    (my : p.y.magnitude ≤ length_most) (sy : p.y.square ≡ p.y.magnitude * p.y.magnitude) (g : Steps step radius) where
+module _ (p : Prepared) (step radius : ℕ) (g : Steps step radius) where
   abbrev q : ℕ
   q = squared_of p step
 
@@ -78,7 +74,8 @@ module _ (p : Prepared) (step radius : ℕ) (mx : p.x.magnitude ≤ length_most)
   q-least = omega (arith, mul-le-mul g.step-least g.step-least)
 
   q-most : q < 2 ^ 35
-  q-most = omega (arith, mul-le-mul mx mx, mul-le-mul my my, mul-le-mul g.step-most g.step-most)
+  q-most =
+      omega (arith, p.x.squared, p.y.squared, mul-le-mul p.x.short p.x.short, mul-le-mul p.y.short p.y.short, mul-le-mul g.step-most g.step-most)
 
   pub sum_fits : Fits w64 (p.x.square + p.y.square)
   sum_fits = omega (arith, q-most)
@@ -86,37 +83,18 @@ module _ (p : Prepared) (step radius : ℕ) (mx : p.x.magnitude ≤ length_most)
   pub squared-sum-fits : Fits w64 q
   squared-sum-fits = omega (arith, q-most)
 
-  ranges-of : (c : Component) → c.magnitude ≤ length_most → c.square ≡ c.magnitude * c.magnitude → c.square ≤ q → ComponentRange c radius q
-  ranges-of c h e k =
-      record {
-        component-most = h;
-        radius-most = omega (arith, g.radius-most);
-        square = e;
-        squared = k;
-        least = q-least;
-        most = q-most;
-      }
-
-  pub ranges-x : ComponentRange p.x radius q
-  ranges-x = ranges-of p.x mx sx (omega arith)
-
-  pub ranges-y : ComponentRange p.y radius q
-  ranges-y = ranges-of p.y my sy (omega arith)
-
-  pub ranges-z : ComponentRange (up_of step) radius q
-  ranges-z = ranges-of (up_of step) (omega (arith, g.step-most)) (omega arith) (omega arith)
-
-pub ruleset ranges = (ranges-x, ranges-y, ranges-z)
+  pub ranges-of : (square : ℕ) → square ≤ q → ComponentRange square radius q
+  ranges-of square k = record { radius-most = omega (arith, g.radius-most); squared = k; least = q-least; most = q-most }
 
 -- ---- the offsets
 
 -- the sign kept and the magnitude rounded
 pub offset_made : (mode : Mode) (c : Component) (magnitude radius l : ℕ) → magnitude ≡ rounded_over mode c.negative (c.magnitude * radius) l
-    → record { negative = c.negative; magnitude = magnitude } ≡ offset_parts mode c radius l
+    → record { negative = c.negative; magnitude = magnitude } ≡ offset_parts mode (signed_of c) radius l
 offset_made mode c magnitude radius l e = ap (λ (m : ℕ). record { negative = c.negative; magnitude = m }) e
 
-pub offsets_are : (mode : Mode) (p : Prepared) (step radius : ℕ) (x y z : Signed) → x ≡ offset_parts mode p.x radius (squared_of p step)
-    → y ≡ offset_parts mode p.y radius (squared_of p step) → z ≡ offset_parts mode (up_of step) radius (squared_of p step)
+pub offsets_are : (mode : Mode) (p : Prepared) (step radius : ℕ) (x y z : Signed) → x ≡ offset_parts mode (signed_of p.x) radius (squared_of p step)
+    → y ≡ offset_parts mode (signed_of p.y) radius (squared_of p step) → z ≡ offset_parts mode (up_of step) radius (squared_of p step)
     → record { x = x; y = y; z = z } ≡ offsets_of mode p step radius
 unfolding offsets_of
 offsets_are mode p step radius x y z ex ey ez = cc
@@ -152,11 +130,11 @@ pub ruleset coordinate-small = (column-small, row_small)
 -- ---- the centre
 
 -- an offset by sign and magnitude is the component's
-offset-is : (mode : Mode) (z : ℤ) (c : Component) (t : Signed) (radius l : ℕ) → signed_of c ≡ parts_of z → t ≡ offset_parts mode c radius l
+offset-is : (mode : Mode) (z : ℤ) (c : Signed) (t : Signed) (radius l : ℕ) → c ≡ parts_of z → t ≡ offset_parts mode c radius l
     → with_sign t.negative t.magnitude ≡ offset_of mode z radius l
 offset-is mode z c t radius l e f =
     ap (λ (t : Signed). with_sign t.negative t.magnitude) f
-    ∙ offset-parts mode z radius l c.negative c.magnitude _ (negative-is (signed_of c) z e) (magnitude-is (signed_of c) z e) refl
+    ∙ offset-parts mode z radius l c.negative c.magnitude _ (negative-is c z e) (magnitude-is c z e) refl
 
 module _ (mode : Mode) (m : List ℕ) (t : Fields) (d c q : ℕ) (p : Prepared) (f : PreparedOf m t c q p) where
   abbrev w : ℕ
@@ -173,26 +151,26 @@ module _ (mode : Mode) (m : List ℕ) (t : Fields) (d c q : ℕ) (p : Prepared) 
       cc (
         abs_neg (dx_at m w c q),
         abs_neg (dy_at m w c q),
-        magnitude-is (signed_of p.x) (neg_ℤ (dx_at m w c q)) f.x.parts,
-        magnitude-is (signed_of p.y) (neg_ℤ (dy_at m w c q)) f.y.parts,
-        f.x.square,
-        f.y.square,
+        magnitude-is (signed_of p.x) (neg_ℤ (dx_at m w c q)) f.x,
+        magnitude-is (signed_of p.y) (neg_ℤ (dy_at m w c q)) f.y,
+        p.x.squared,
+        p.y.squared,
       )
 
-  pub centre-is : (o : Offsets) (u x y z : ℕ) → Sizes w d → Inner w d c q → Steps step radius → o ≡ offsets_of mode p step radius
-      → u ≡ word_at m (4 * (q * w + c))
+  pub centre-is : (o : Offsets) (i u x y z : ℕ) → Sizes w d → Inner w d c q → Steps step radius → o ≡ offsets_of mode p step radius
+      → i ≡ q * w + c → u ≡ word_at m (4 * i)
       → x ≡ word_of (signed (c * step) +ℤ with_sign o.x.negative o.x.magnitude)
       → y ≡ word_of (signed (q * step) +ℤ with_sign o.y.negative o.y.magnitude)
       → z ≡ word_of (signed u +ℤ with_sign o.z.negative o.z.magnitude)
       → words_bytes (record { x = x; y = y; z = z }) ≡ record_bytes (centre_of mode step radius (point_at m w c q))
   unfolding words_bytes
-  centre-is o u x y z s h k eo eu ex ey ez =
+  centre-is o i u x y z s h k eo ei eu ex ey ez =
       let l : squared_of p step ≡ squared_length (dx_at m w c q) (dy_at m w c q) step = squared-is in
       let column : signed (c * step) ≡ pos (c * step) = signed-small (c * step) (omega (arith, column-most w d c q step radius s h k)) in
       let row : signed (q * step) ≡ pos (q * step) = signed-small (q * step) (omega (arith, row-most w d c q step radius s h k)) in
-      let height : signed u ≡ height_at m w c q = ap signed eu ∙ height-is m w c q in
-      let ox = offset-is mode (neg_ℤ (dx_at m w c q)) p.x o.x radius (squared_of p step) f.x.parts (unfold offsets_of in ap (λ (o : Offsets). o.x) eo) in
-      let oy = offset-is mode (neg_ℤ (dy_at m w c q)) p.y o.y radius (squared_of p step) f.y.parts (unfold offsets_of in ap (λ (o : Offsets). o.y) eo) in
+      let height : signed u ≡ height_at m w c q = ap signed (rw ei at eu) ∙ height-is m w c q in
+      let ox = offset-is mode (neg_ℤ (dx_at m w c q)) (signed_of p.x) o.x radius (squared_of p step) f.x (unfold offsets_of in ap (λ (o : Offsets). o.x) eo) in
+      let oy = offset-is mode (neg_ℤ (dy_at m w c q)) (signed_of p.y) o.y radius (squared_of p step) f.y (unfold offsets_of in ap (λ (o : Offsets). o.y) eo) in
       let oz = offset-is mode (pos (2 * step)) (up_of step) o.z radius (squared_of p step) (parts-pos (2 * step)) (unfold offsets_of in ap (λ (o : Offsets). o.z) eo) in
       cc (record_is mode step radius m w c q)
 

@@ -5,27 +5,28 @@ use Rattle.words.specs.Word.{word_bytes}
 use Rattle.words.specs.declared.Signed.{Signed}
 use Rattle.cutter.specs.Limits.{radius_most}
 use Rattle.cutter.specs.Offset.{rounded_over}
-use Rattle.offset.specs.declared.Component.{Component}
-use Rattle.centres.specs.Prepared.{squared_of}
+use Rattle.cutter.specs.Centre.{Centre, centre_of, point_at}
+use Rattle.maps.specs.declared.Point.{Point}
+use Rattle.centres.specs.Prepared.{signed_of, squared_of}
 use Rattle.centres.specs.declared.Offsets.{Offsets}
 use Rattle.centres.specs.declared.Prepared.{Prepared}
 use Rattle.centres.specs.declared.Words.{Words}
 
--- an offset by sign and magnitude
-abbrev pub offset_parts : Mode → Component → ℕ → ℕ → Signed
+-- an offset by sign and magnitude, of a component by these
+abbrev pub offset_parts : Mode → Signed → ℕ → ℕ → Signed
 offset_parts mode c radius q =
     record { negative = c.negative; magnitude = rounded_over mode c.negative (c.magnitude * radius) q }
 
 -- the component along z, 2·step
-abbrev pub up_of : ℕ → Component
-up_of step = record { negative = false; magnitude = 2 * step; square = 4 * step * step }
+abbrev pub up_of : ℕ → Signed
+up_of step = record { negative = false; magnitude = 2 * step }
 
 -- the three offsets at a point
 unfoldable pub offsets_of : Mode → Prepared → ℕ → ℕ → Offsets
 offsets_of mode p step radius =
     record {
-      x = offset_parts mode p.x radius (squared_of p step);
-      y = offset_parts mode p.y radius (squared_of p step);
+      x = offset_parts mode (signed_of p.x) radius (squared_of p step);
+      y = offset_parts mode (signed_of p.y) radius (squared_of p step);
       z = offset_parts mode (up_of step) radius (squared_of p step);
     }
 
@@ -38,3 +39,7 @@ pub record Short (o : Offsets) : Type 0 where
 -- the twelve bytes of three words
 unfoldable pub words_bytes : Words → List ℕ
 words_bytes k = word_bytes k.x ++ word_bytes k.y ++ word_bytes k.z
+
+-- the centre of a point before the lift
+abbrev pub touching_at : Mode → Point → Centre
+touching_at mode p = centre_of mode p.map.trailer.step p.map.trailer.radius (point_at p.map.bytes.now p.map.trailer.width p.column p.row)

@@ -5,6 +5,8 @@ use Rattle.words.specs.Word.{word_at}
 use Rattle.words.specs.Signed.{signed}
 use Rattle.cutter.specs.Limits.{radius_most, height_most}
 use Rattle.cutter.specs.Centre.{Centre}
+use Rattle.cutter.specs.Lift.{lifted}
+use Rattle.maps.specs.declared.Point.{Point}
 
 -- the centre with these words
 abbrev pub centre_of_words : ℕ → ℕ → ℕ → Centre
@@ -22,3 +24,7 @@ pub record Reaches (step c q : ℕ) (k : Centre) : Type 0 where
   pub biased : ℕ
   pub z : k.z ≡ sub_ℕ biased height_most
   pub small : biased < 2 ^ 30
+
+-- the centre of a point, lifted over the nine heights round it
+abbrev pub lifted_at : Point → Centre → Centre
+lifted_at p k = lifted p.map.bytes.now p.map.trailer.width p.map.trailer.step p.map.trailer.radius p.column p.row k

@@ -6,15 +6,11 @@ ghost use Rattle.words.specs.Signed.{signed, word_of};
 ghost use Rattle.words.specs.Parts.{parts_of};
 ghost use Rattle.words.specs.Splice.{splice};
 ghost use Rattle.cutter.specs.Limits.{radius_most};
-ghost use Rattle.cutter.specs.Map.{Inner};
 ghost use Rattle.cutter.specs.Centre.{record_bytes};
-ghost use Rattle.cutter.specs.Lift.{lifted};
-ghost use Rattle.cutter.specs.Accepted.{Ready};
-ghost use Rattle.lift.specs.Record.{centre_of_words, centre_read, Reaches};
+ghost use Rattle.lift.specs.Record.{centre_of_words, centre_read, Reaches, lifted_at};
 
-use maps::{biased, unbiased};
+use maps::{Point, biased, unbiased};
 use nine::lift;
-use trailer::Fields;
 use words::{Signed, put_word, signed_of, word_at, wrapping_add_signed};
 
 // How far the coordinate with this word is from a place.
@@ -30,43 +26,26 @@ fn away(word: u64, place: u64) -> Signed
 }
 
 // The word of z, lifted, of the centre with these words.
-fn lifted_word(
-    map: &[u8],
-    trailer: Fields,
-    column: usize,
-    row: usize,
-    x: u64,
-    y: u64,
-    z: u64,
-) -> u64
-    requires ready { Ready map.now trailer }
-    requires inner { Inner trailer.width trailer.depth column row }
-    requires x_bound { (x < 4294967296) × (y < 4294967296) × (z < 4294967296) }
-    requires reaches { Reaches trailer.step column row (centre_of_words x y z) }
-    ensures { result ≡ word_of (lifted map.now trailer.width trailer.step trailer.radius column row (centre_of_words x y z)).z }
+fn lifted_word(point: Point<'_>, x: u64, y: u64, z: u64) -> u64
+    requires words { (x < 4294967296) × (y < 4294967296) × (z < 4294967296) }
+    requires reaches { Reaches point.map.trailer.step point.column point.row (centre_of_words x y z) }
+    ensures { result ≡ word_of (lifted_at point.entry (centre_of_words x y z)).z }
 {
-    let along = away(x, (column as u64) * trailer.step);
-    let down = away(y, (row as u64) * trailer.step);
-    unbiased(lift(map, trailer, column, row, along, down, biased(z)))
+    let step = point.map.trailer.step;
+    let along = away(x, (point.column as u64) * step);
+    let down = away(y, (point.row as u64) * step);
+    unbiased(lift(point, along, down, biased(z)))
 }
 
 // Lifts the record that stands from `at` on.
-pub fn lift_record(
-    map: &[u8],
-    out: &mut [u8],
-    trailer: Fields,
-    column: usize,
-    row: usize,
-    at: usize,
-)
-    requires ready { Ready map.now trailer }
-    requires inner { Inner trailer.width trailer.depth column row }
-    requires at_in_bounds { (at + 12 ≤ length out.old) × Reaches trailer.step column row (centre_read out.old at) }
-    ensures { out.new ≡ splice at (record_bytes (lifted map.now trailer.width trailer.step trailer.radius column row (centre_read out.old at))) out.old }
+pub fn lift_record(point: Point<'_>, out: &mut [u8], at: usize)
+    requires room { at + 12 ≤ length out.old }
+    requires reaches { Reaches point.map.trailer.step point.column point.row (centre_read out.old at) }
+    ensures { out.new ≡ splice at (record_bytes (lifted_at point.entry (centre_read out.old at))) out.old }
 {
     let x = word_at(out, at);
     let y = word_at(out, at + 4);
-    let z = lifted_word(map, trailer, column, row, x, y, word_at(out, at + 8));
+    let z = lifted_word(point, x, y, word_at(out, at + 8));
     put_word(out, at, x);
     put_word(out, at + 4, y);
     put_word(out, at + 8, z);

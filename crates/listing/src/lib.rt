@@ -32,7 +32,7 @@ fn put_list(rule: Rule, mode: Mode, map: Map<'_>, out: &mut [u8]) -> usize
     ensures { (result ≡ list_length map.entry.bytes.now) × (out.new ≡ splice 0 (list_bytes rule mode map.entry.bytes.now) out.old) }
 {
     let trailer = map.trailer;
-    put_points(rule, mode, map.bytes, out, trailer);
+    put_points(rule, mode, map, out);
     let end = records_length(trailer.width, trailer.depth);
     let rounding = mode.number() as u64;
     let fields = Fields {

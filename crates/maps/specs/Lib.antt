@@ -1,1 +1,2 @@
 pub mod Map
+pub mod Points

@@ -9,7 +9,8 @@ ghost use Rattle.cutter.specs.Limits.{height_most, difference_most};
 ghost use Rattle.kinds.specs.Refusal.{asked};
 ghost use Rattle.kinds.specs.declared.Refusal.TheVariants.{Room};
 ghost use Rattle.cutter.specs.Call.{heights_within, has_room, map_asked};
-ghost use Rattle.cutter.specs.Accepted.{Heights, Ready};
+ghost use Rattle.cutter.specs.Map.{Inner};
+ghost use Rattle.cutter.specs.Accepted.{Ready};
 
 use kinds::Refusal;
 use sizes::{is_whole, read_trailer, records_length};
@@ -58,6 +59,40 @@ impl<'a> Map<'a> {
         }
         Ok(())
     }
+
+    // The word of the height at place i, counted row by row.
+    pub fn height_word(self, i: usize) -> u64
+        requires { i < self.trailer.width * self.trailer.depth }
+        ensures { (result ≡ word_at self.entry.bytes.now (4 * i)) × (result < 4294967296) }
+    {
+        word_at(self.bytes, 4 * i)
+    }
+
+    // The same height with the bias.
+    pub fn height_at(self, i: usize) -> u64
+        requires { i < self.trailer.width * self.trailer.depth }
+        ensures { (sub_ℕ result height_most ≡ signed (word_at self.entry.bytes.now (4 * i))) × (result ≤ difference_most) }
+    {
+        biased(self.height_word(i))
+    }
+}
+
+// An inner point of a map: it has four neighbours.
+#[derive(Clone, Copy)]
+pub struct Point<'a> {
+    pub map: Map<'a>,
+    pub column: usize,
+    pub row: usize,
+    ghost inner: { Inner map.trailer.width map.trailer.depth column row },
+}
+
+impl<'a> Point<'a> {
+    // The place of its height.
+    pub fn place(self) -> usize
+        ensures { result ≡ self.entry.row * self.entry.map.trailer.width + self.entry.column }
+    {
+        self.row * self.map.trailer.width + self.column
+    }
 }
 
 // Whether each of the first `count` heights is in its range.
@@ -93,22 +128,4 @@ pub fn unbiased(u: u64) -> u64
     ensures { result ≡ word_of (sub_ℕ u height_most) }
 {
     (u + 4294967296 - BIAS) % 4294967296
-}
-
-// The word of the height at place i, counted row by row.
-pub fn height_word(map: &[u8], i: usize, count: usize) -> u64
-    requires i_lt_count { i < count }
-    requires heights { Heights map.now count }
-    ensures { (result ≡ word_at map.now (4 * i)) × (result < 4294967296) }
-{
-    word_at(map, 4 * i)
-}
-
-// The same height with the bias.
-pub fn height_at(map: &[u8], i: usize, count: usize) -> u64
-    requires i_lt_count { i < count }
-    requires heights { Heights map.now count }
-    ensures { (sub_ℕ result height_most ≡ signed (word_at map.now (4 * i))) × (result ≤ difference_most) }
-{
-    biased(height_word(map, i, count))
 }

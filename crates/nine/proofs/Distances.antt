@@ -5,15 +5,13 @@ use mathlib.Core.Bool.{Bool, true, false, cond}
 use mathlib.Core.List.{List}
 use native.Mathlib.Nat.{mul-le-mul}
 use native.Mathlib.Omega.{arith}
-use lib.IntN.{ℤ, pos, nat_abs, sub_ℕ, ◌+ℤ◌, ◌-ℤ◌, pos-+ℤ-pos}
+use lib.IntN.{ℤ, pos, nat_abs, ◌+ℤ◌, ◌-ℤ◌, pos-+ℤ-pos}
 use mir.Syntax.{w64}
 use mir.Val.{Fits}
 use Rattle.numbers.proofs.Differences.{diff-abs, diff-less, pos-less}
 use Rattle.words.specs.Word.{word_at}
 use Rattle.words.specs.Signed.{signed, with_sign}
-use Rattle.words.specs.Parts.{parts_of}
 use Rattle.words.specs.declared.Signed.{Signed}
-use Rattle.words.proofs.Differences.{magnitude-is}
 use Rattle.cutter.specs.Limits.{step_most, radius_most}
 use Rattle.cutter.specs.Map.{height_at}
 use Rattle.cutter.specs.Centre.{Centre}
@@ -34,29 +32,26 @@ module _ (o : Signed) (step : ℕ) (h : o.magnitude ≤ radius_most) (k : step �
   pub own-fits : Fits w64 (o.magnitude * o.magnitude)
   own-fits = omega (arith, mul-le-mul h h)
 
-  module _ (s : Signed) (e : s ≡ parts_of (sub_ℕ o.magnitude step)) where
-    near-is : s.magnitude ≡ o.magnitude - step + (step - o.magnitude)
-    near-is = magnitude-is s (sub_ℕ o.magnitude step) e ∙ diff-abs o.magnitude step
-
-    near-most : s.magnitude ≤ 22500
+  module _ (s : ℕ) (near-is : s ≡ o.magnitude - step + (step - o.magnitude)) where
+    near-most : s ≤ 22500
     near-most = omega (arith, near-is)
 
-    pub near_fits : Fits w64 (s.magnitude * s.magnitude)
+    pub near_fits : Fits w64 (s * s)
     near_fits = omega (arith, mul-le-mul near-most near-most)
 
     pub squares-back : o.negative ≡ true
-        → record { before = s.magnitude * s.magnitude; own = o.magnitude * o.magnitude; behind = (o.magnitude + step) * (o.magnitude + step) }
+        → record { before = s * s; own = o.magnitude * o.magnitude; behind = (o.magnitude + step) * (o.magnitude + step) }
         ≡ squares_of o step
     unfolding squares_of
     squares-back t = rw (t, near-is) refl
 
     pub squares-on : o.negative ≡ false
-        → record { before = (o.magnitude + step) * (o.magnitude + step); own = o.magnitude * o.magnitude; behind = s.magnitude * s.magnitude }
+        → record { before = (o.magnitude + step) * (o.magnitude + step); own = o.magnitude * o.magnitude; behind = s * s }
         ≡ squares_of o step
     unfolding squares_of
     squares-on f = rw (f, near-is) refl
 
-    pub small-back : Small (record { before = s.magnitude * s.magnitude; own = o.magnitude * o.magnitude; behind = (o.magnitude + step) * (o.magnitude + step) })
+    pub small-back : Small (record { before = s * s; own = o.magnitude * o.magnitude; behind = (o.magnitude + step) * (o.magnitude + step) })
     small-back =
         record {
           before = omega (arith, mul-le-mul near-most near-most);
@@ -64,7 +59,7 @@ module _ (o : Signed) (step : ℕ) (h : o.magnitude ≤ radius_most) (k : step �
           behind = omega (arith, mul-le-mul far-most far-most);
         }
 
-    pub small-on : Small (record { before = (o.magnitude + step) * (o.magnitude + step); own = o.magnitude * o.magnitude; behind = s.magnitude * s.magnitude })
+    pub small-on : Small (record { before = (o.magnitude + step) * (o.magnitude + step); own = o.magnitude * o.magnitude; behind = s * s })
     small-on = record { before = small-back.behind; own = small-back.own; behind = small-back.before }
 
 pub ruleset squares-fit = (near_fits, own-fits, far-fits)

@@ -44,17 +44,17 @@ middle radius m i j x v ks ls h n place e t =
     (first (meets radius (contact_from m (i + 1) (x.own + v)) (lowered n)) _ own)
 
 -- so the nine raise z as far from such a start as from z itself
-pub lifted-is : (m : List ℕ) (w d step radius c q : ℕ) (x y : Signed) (xs ys : Squares) (h z n r : ℕ)
-    → Inner w d c q → xs ≡ squares_of x step → ys ≡ squares_of y step → lowered h ≡ signed (word_at m (4 * (q * w + c)))
+pub lifted-is : (m : List ℕ) (w d step radius c q : ℕ) (x y : Signed) (xs ys : Squares) (p h z n r : ℕ)
+    → Inner w d c q → xs ≡ squares_of x step → ys ≡ squares_of y step → p ≡ q * w + c → lowered h ≡ signed (word_at m (4 * p))
     → NotPast (meets_one radius h (xs.own + ys.own)) z n
     → LeastFrom (meets_these radius (nine_from m w c q xs ys)) n r
     → r < 2 ^ 31 → lowered r ≡ lifted_over radius (nine_at m w step (centre_from step c q x y) c q) (lowered z)
-lifted-is m w d step radius c q x y xs ys h z n r i ex ey eh nudged all small =
+lifted-is m w d step radius c q x y xs ys p h z n r i ex ey ep eh nudged all small =
     let a = three_from m ((q - 1) * w + c - 1) xs ys.before in
     let e = three_from m ((q + 1) * w + c - 1) xs ys.behind in
     let ks = nine_from m w c q xs ys in
     let whole : LeastFrom (meets_these radius ks) z r =
     least-from (meets_one radius h (xs.own + ys.own)) (meets_these radius ks) z n r
-    (λ n t. middle radius m (q * w + c - 1) (q * w + c) xs ys.own a e h n (omega (arith, i.left)) eh t) nudged all in
+    (λ n t. middle radius m (q * w + c - 1) p xs ys.own a e h n (omega (arith, i.left)) eh t) nudged all in
     let nine : nine_at m w step (centre_from step c q x y) c q ≡ ks = cc (nine-is m w step c q x y i.left i.above) in
     lifted-biased radius ks height_most z r whole (omega arith) ∙ ap (λ (ks : List Contact). lifted_over radius ks (lowered z)) (sym nine)

@@ -3,18 +3,15 @@
 
 ghost use Rattle.std.specs.Prelude.{◌≡◌, ◌^◌, ◌≤◌, ◌<◌};
 ghost use Rattle.cutter.specs.Limits.{step_most, radius_most};
-ghost use Rattle.cutter.specs.Map.{Inner};
 ghost use Rattle.cutter.specs.Lift.{nine_at, lifted_over};
-ghost use Rattle.cutter.specs.Accepted.{Ready};
 ghost use Rattle.numbers.specs.Least.{LeastFrom};
 ghost use Rattle.raising.specs.Biased.{lowered, meets_these};
 ghost use Rattle.raising.specs.Squares.{Small};
 ghost use Rattle.nine.specs.Offset.{squares_of, nine_from, centre_from};
 
-use maps::height_at;
+use maps::Point;
 use raising::{Squares, nudge, raise_row};
-use trailer::Fields;
-use words::{Signed, difference};
+use words::Signed;
 
 // The squares of the level distances from a centre with this offset from its point.
 fn squares_of(offset: Signed, step: u64) -> Squares
@@ -22,7 +19,7 @@ fn squares_of(offset: Signed, step: u64) -> Squares
     ensures { (result ≡ squares_of offset step) × Small result }
 {
     let own = offset.magnitude;
-    let near = difference(own, step).magnitude;
+    let near = own.abs_diff(step);
     let far = own + step;
     if offset.negative {
         Squares {
@@ -40,47 +37,25 @@ fn squares_of(offset: Signed, step: u64) -> Squares
 }
 
 // z raised over the nine heights round an inner point.
-fn raise_nine(
-    map: &[u8],
-    trailer: Fields,
-    column: usize,
-    row: usize,
-    x: Squares,
-    y: Squares,
-    z: u64,
-) -> u64
-    requires ready { Ready map.now trailer }
-    requires inner { Inner trailer.width trailer.depth column row }
+fn raise_nine(point: Point<'_>, x: Squares, y: Squares, z: u64) -> u64
     requires small { Small x × Small y × (z < 2 ^ 31) }
-    ensures { LeastFrom (meets_these trailer.radius (nine_from map.now trailer.width column row x y)) z result × (result < 2 ^ 31) }
+    ensures { LeastFrom (meets_these point.entry.map.trailer.radius (nine_from point.entry.map.bytes.now point.entry.map.trailer.width point.entry.column point.entry.row x y)) z result × (result < 2 ^ 31) }
 {
-    let above = raise_row(map, trailer, column, row - 1, x, y.before, z);
-    let beside = raise_row(map, trailer, column, row, x, y.own, above);
-    raise_row(map, trailer, column, row + 1, x, y.behind, beside)
+    let above = raise_row(point.map, point.column, point.row - 1, x, y.before, z);
+    let beside = raise_row(point.map, point.column, point.row, x, y.own, above);
+    raise_row(point.map, point.column, point.row + 1, x, y.behind, beside)
 }
 
 // z of the centre at an inner point, x and y away from it, lifted.
-pub fn lift(
-    map: &[u8],
-    trailer: Fields,
-    column: usize,
-    row: usize,
-    x: Signed,
-    y: Signed,
-    z: u64,
-) -> u64
-    requires ready { Ready map.now trailer }
-    requires inner { Inner trailer.width trailer.depth column row }
-    requires magnitude_le_radius_most { (x.magnitude ≤ radius_most) × (y.magnitude ≤ radius_most) × (z < 2 ^ 30) }
-    ensures { (lowered result ≡ lifted_over trailer.radius (nine_at map.now trailer.width trailer.step (centre_from trailer.step column row x y) column row) (lowered z)) × (result < 2 ^ 31) }
+pub fn lift(point: Point<'_>, x: Signed, y: Signed, z: u64) -> u64
+    requires within_radius { (x.magnitude ≤ radius_most) × (y.magnitude ≤ radius_most) }
+    requires biased { z < 2 ^ 30 }
+    ensures { (lowered result ≡ lifted_over point.entry.map.trailer.radius (nine_at point.entry.map.bytes.now point.entry.map.trailer.width point.entry.map.trailer.step (centre_from point.entry.map.trailer.step point.entry.column point.entry.row x y) point.entry.column point.entry.row) (lowered z)) × (result < 2 ^ 31) }
 {
+    let trailer = point.map.trailer;
     let xs = squares_of(x, trailer.step);
     let ys = squares_of(y, trailer.step);
-    let own = height_at(
-        map,
-        row * trailer.width + column,
-        trailer.width * trailer.depth,
-    );
+    let own = point.map.height_at(point.place());
     let nudged = nudge(z, own, xs.own + ys.own, trailer.radius);
-    raise_nine(map, trailer, column, row, xs, ys, nudged)
+    raise_nine(point, xs, ys, nudged)
 }

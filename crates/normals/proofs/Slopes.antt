@@ -79,9 +79,12 @@ module _ (w d c q : ℕ) where
   below-fits s h = omega (arith, around w d c q h, size-most w d s)
 
 -- the two slopes are the normal's components
-pub normal-is : (m : List ℕ) (w d c q l : ℕ) (x y : Signed) → Inner w d c q
-    → x ≡ parts_of (signed (word_at m (4 * (q * w + c - 1))) -ℤ signed (word_at m (4 * (q * w + c + 1))))
-    → y ≡ parts_of (signed (word_at m (4 * (q * w + c - w))) -ℤ signed (word_at m (4 * (q * w + c + w))))
+pub normal-is : (m : List ℕ) (w d c q p l : ℕ) (x y : Signed) → Inner w d c q → p ≡ q * w + c
+    → x ≡ parts_of (signed (word_at m (4 * (p - 1))) -ℤ signed (word_at m (4 * (p + 1))))
+    → y ≡ parts_of (signed (word_at m (4 * (p - w))) -ℤ signed (word_at m (4 * (p + w))))
     → NormalOf (dx_at m w c q) (dy_at m w c q) (record { x = x; y = y; squared = l })
-normal-is m w d c q l x y h ex ey =
-    record { x = ex ∙ ap parts_of (sym (dx-is m w d c q h)); y = ey ∙ ap parts_of (sym (dy-is m w d c q h)) }
+normal-is m w d c q p l x y h e ex ey =
+    record {
+      x = rw e at ex ∙ ap parts_of (sym (dx-is m w d c q h));
+      y = rw e at ey ∙ ap parts_of (sym (dy-is m w d c q h));
+    }

@@ -5,22 +5,19 @@ ghost use Rattle.std.specs.Prelude.{◌≡◌, ◌+◌, ◌*◌, ◌≤◌, ◌<
 ghost use Rattle.words.specs.Word.{word_at};
 ghost use Rattle.words.specs.Signed.{signed};
 ghost use Rattle.words.specs.Parts.{parts_of};
-ghost use Rattle.cutter.specs.Map.{Inner, dx_at, dy_at};
 ghost use Rattle.cutter.specs.Limits.{step_most, difference_most};
-ghost use Rattle.cutter.specs.Accepted.{Heights, Ready};
+ghost use Rattle.maps.specs.Points.{dx_of, dy_of};
 ghost use Rattle.normals.specs.Normal.{NormalOf, Measured};
 
-use maps::height_word;
-use trailer::Fields;
+use maps::{Map, Point};
 use words::{Signed, i32_of, parts_of};
 
 // The height at place i less that at place j.
-fn slope(map: &[u8], i: usize, j: usize, count: usize) -> Signed
-    requires i_lt_count { (i < count) × (j < count) }
-    requires heights { Heights map.now count }
-    ensures { (result ≡ parts_of (signed (word_at map.now (4 * i)) -ℤ signed (word_at map.now (4 * j)))) × (result.magnitude ≤ difference_most) }
+fn slope(map: Map<'_>, i: usize, j: usize) -> Signed
+    requires { (i < map.trailer.width * map.trailer.depth) × (j < map.trailer.width * map.trailer.depth) }
+    ensures { (result ≡ parts_of (signed (word_at map.entry.bytes.now (4 * i)) -ℤ signed (word_at map.entry.bytes.now (4 * j)))) × (result.magnitude ≤ difference_most) }
 {
-    parts_of(i32_of(height_word(map, i, count)) - i32_of(height_word(map, j, count)))
+    parts_of(i32_of(map.height_word(i)) - i32_of(map.height_word(j)))
 }
 
 // The normal by its first two components, −dx and −dy, and its squared length.
@@ -32,17 +29,14 @@ pub struct Normal {
 }
 
 // The normal at an inner point.
-pub fn normal_at(map: &[u8], trailer: Fields, column: usize, row: usize) -> Normal
-    requires ready { Ready map.now trailer }
-    requires inner { Inner trailer.width trailer.depth column row }
-    ensures { NormalOf (dx_at map.now trailer.width column row) (dy_at map.now trailer.width column row) result × Measured result trailer.step }
+pub fn normal_at(point: Point<'_>) -> Normal
+    ensures { NormalOf (dx_of point.entry) (dy_of point.entry) result × Measured result point.entry.map.trailer.step }
 {
-    let width = trailer.width;
-    let count = width * trailer.depth;
-    let place = row * width + column;
-    let x = slope(map, place - 1, place + 1, count);
-    let y = slope(map, place - width, place + width, count);
-    let squared = squared_length(x.magnitude, y.magnitude, trailer.step);
+    let place = point.place();
+    let width = point.map.trailer.width;
+    let x = slope(point.map, place - 1, place + 1);
+    let y = slope(point.map, place - width, place + width);
+    let squared = squared_length(x.magnitude, y.magnitude, point.map.trailer.step);
     Normal { x, y, squared }
 }
 

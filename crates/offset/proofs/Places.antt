@@ -53,22 +53,22 @@ module _ (n q floor left : ℕ) (ranges : QuotientRange n q) (doubled : DoubledO
 
 -- ---- a component and a radius
 
-module _ (c : Component) (radius q : ℕ) (ranges : ComponentRange c radius q) where
+module _ (c : Component) (radius q : ℕ) (ranges : ComponentRange c.square radius q) where
   abbrev n : ℕ
   n = c.magnitude * radius
 
   pub squares-are : c.square * (radius * radius) ≡ n * n
-  squares-are = rw ranges.square (omega arith)
+  squares-are = rw c.squared (omega arith)
 
   pub offset-ranges : QuotientRange n q
   offset-ranges =
       record {
-        product-most = omega (arith, mul-le-mul ranges.component-most ranges.radius-most);
+        product-most = omega (arith, mul-le-mul c.short ranges.radius-most);
         ratio =
             nlin (c.magnitude ∷ radius ∷ q ∷ [])
             (v 0 ⊗ v 0 ⊗ (v 1 ⊕ # length_most) ⊙ v 1 ⊑ # length_most ∷ # (length_most * length_most) ⊙ v 0 ⊗ v 0 ⊑ v 2 ∷ [])
             (v 0 ⊗ v 1 ⊗ (v 0 ⊗ v 1)) (# (length_most * length_most) ⊗ v 2) tt
-            (omega (arith, ranges.radius-most, ranges.squared, ranges.square));
+            (omega (arith, ranges.radius-most, ranges.squared, c.squared));
         least = ranges.least;
         most = ranges.most;
       }
@@ -76,7 +76,7 @@ module _ (c : Component) (radius q : ℕ) (ranges : ComponentRange c radius q) w
   -- an offset is not longer than the radius
   pub offset-short : (mode : Mode) (negative : Bool) (r : ℕ) → r ≡ rounded_over mode negative n q → r ≤ radius
   offset-short mode negative r e =
-      rw e (offsets.rounded-most c.magnitude radius q ranges.least (omega (arith, ranges.squared, ranges.square)) mode negative)
+      rw e (offsets.rounded-most c.magnitude radius q ranges.least (omega (arith, ranges.squared, c.squared)) mode negative)
 
   module _ (scale : ℕ) (s : ScaleOf q radius scale) where
     abbrev start : ℕ

@@ -186,7 +186,7 @@ module _ (mode : Mode) (negative : Bool) (start n q r : ℕ) (ranges : QuotientR
   settled_is = rounded-is n q found.floor found.left ranges found.doubled mode negative r found.is
 
 -- component times radius over √q, rounded, from the start that the scale gives; it is not longer than the radius
-module _ (mode : Mode) (c : Component) (radius q scale r : ℕ) (ranges : ComponentRange c radius q) (s : ScaleOf q radius scale)
+module _ (mode : Mode) (c : Component) (radius q scale r : ℕ) (ranges : ComponentRange c.square radius q) (s : ScaleOf q radius scale)
     (e : r ≡ settled_by (rest_of mode c.negative) (c.magnitude * scale / 2 ^ 45) (c.square * (radius * radius)) q) where
   pub rounded-is-over : r ≡ rounded_over mode c.negative (c.magnitude * radius) q
   rounded-is-over =
@@ -230,12 +230,12 @@ module _ (mode : Mode) (negative : Bool) (start nn q x : ℕ) where
 -- ---- the code's numbers
 
 -- the code's sign, by what a difference that wraps is
-module _ (a b d : ℕ) (e : (d + b) % 2 ^ 64 ≡ a) (small : d < 2 ^ 64) (next : b < 2 ^ 64) where
-  pub sign-is : d / 2 ^ 63 ≡ sign_of a b
+module _ (a b : ℕ) (small : a < 2 ^ 64) (next : b < 2 ^ 64) where
+  pub sign-is : (a + (2 ^ 64 - b)) % 2 ^ 64 / 2 ^ 63 ≡ sign_of a b
   unfolding sign_of
   sign-is = omega arith
 
-  pub sign-most : d / 2 ^ 63 ≤ 1
+  pub sign-most : (a + (2 ^ 64 - b)) % 2 ^ 64 / 2 ^ 63 ≤ 1
   sign-most = omega arith
 
 -- the sign of a difference by the lower words, where it is less than 2^62
@@ -328,24 +328,23 @@ radius-fits radius h = omega (arith, mul-le-mul h h)
 pub limit-fits : (radius : ℕ) → radius ≤ length_most → Fits w64 (4 * (radius * radius))
 limit-fits radius h = omega (arith, mul-le-mul h h)
 
-limit_is : (square radius tie a limit : ℕ) → a ≡ square * (4 * (radius * radius)) % 2 ^ 64 → limit ≡ (a + tie) % 2 ^ 64
-    → limit ≡ (4 * (square * (radius * radius)) + tie) % 2 ^ 64
-limit_is square radius tie a limit ea el =
+limit_is : (square radius tie : ℕ) → (square * (4 * (radius * radius)) % 2 ^ 64 + tie) % 2 ^ 64 ≡ (4 * (square * (radius * radius)) + tie) % 2 ^ 64
+limit_is square radius tie =
     let w : square * (4 * (radius * radius)) ≡ 4 * (square * (radius * radius)) = omega arith in
     omega arith
 
 -- the code's steps
-pub settled-so : (rest start square radius q a limit p x : ℕ) → rest ≤ 2 → Started start (square * (radius * radius)) q
-    → a ≡ square * (4 * (radius * radius)) % 2 ^ 64 → limit ≡ (a + (rest + (start + (2 - rest) / 2) / 2 % 2) / 2) % 2 ^ 64
-    → p ≡ (2 * ((start + (2 - rest) / 2) / 2) + rest) * (2 * ((start + (2 - rest) / 2) / 2) + rest) * q % 2 ^ 64 → x ≡ sign_of p limit
+pub settled-so : (rest start square radius q x : ℕ) → rest ≤ 2 → Started start (square * (radius * radius)) q
+    → x ≡ sign_of
+    ((2 * ((start + (2 - rest) / 2) / 2) + rest) * (2 * ((start + (2 - rest) / 2) / 2) + rest) * q % 2 ^ 64)
+    ((square * (4 * (radius * radius)) % 2 ^ 64 + (rest + (start + (2 - rest) / 2) / 2 % 2) / 2) % 2 ^ 64)
     → (start + (2 - rest) / 2) / 2 + x ≡ settled_by rest start (square * (radius * radius)) q
-settled-so rest start square radius q a limit p x most started ea el ep ex =
-    settled-by-sign rest start (square * (radius * radius)) q most started x (ex ∙ ap₂ sign_of ep (limit_is square radius _ a limit ea el))
+settled-so rest start square radius q x most started e =
+    settled-by-sign rest start (square * (radius * radius)) q most started x (e ∙ ap (sign_of _) (limit_is square radius _))
 
-pub whole-so : (i start square radius q a limit p x : ℕ) → i ≤ 1 → Started start (square * (radius * radius)) q
-    → a ≡ square * (radius * radius) % 2 ^ 64 → limit ≡ (a + i) % 2 ^ 64
-    → p ≡ ((start + 1 - i) / 2 + i) * ((start + 1 - i) / 2 + i) * q % 2 ^ 64 → x ≡ sign_of p limit
+pub whole-so : (i start square radius q x : ℕ) → i ≤ 1 → Started start (square * (radius * radius)) q
+    → x ≡ sign_of (((start + 1 - i) / 2 + i) * ((start + 1 - i) / 2 + i) * q % 2 ^ 64) ((square * (radius * radius) % 2 ^ 64 + i) % 2 ^ 64)
     → (start + 1 - i) / 2 + x ≡ settled_by (2 * i) start (square * (radius * radius)) q
-whole-so i start square radius q a limit p x most started ea el ep ex =
-    let l : limit ≡ (square * (radius * radius) + i) % 2 ^ 64 = omega arith in
-    settled-whole i start (square * (radius * radius)) q most started x (ex ∙ ap₂ sign_of ep l)
+whole-so i start square radius q x most started e =
+    let l : (square * (radius * radius) % 2 ^ 64 + i) % 2 ^ 64 ≡ (square * (radius * radius) + i) % 2 ^ 64 = omega arith in
+    settled-whole i start (square * (radius * radius)) q most started x (e ∙ ap (sign_of _) l)

@@ -1,6 +1,5 @@
 -- What the code knows of 1 over √q and of a radius over √q, in products and squares, and the ranges of its numbers. Assumes nothing.
 use Rattle.std.specs.Prelude.{◌≡◌, ℕ, ◌+◌, ◌-◌, ◌*◌, ◌^◌, ◌<◌, ◌≤◌}
-use Rattle.offset.specs.declared.Component.{Component}
 
 -- components and radii up to this one are taken, whatever a map allows
 abbrev pub length_most : ℕ
@@ -22,12 +21,10 @@ pub record ScaleOf (q radius scale : ℕ) : Type 0 where
   pub inverse : InverseOf q low (27 + half)
   pub is : scale ≡ low * (radius * 2 ^ (18 - half))
 
--- the ranges of a component, a radius, and the normal's squared length q
-pub record ComponentRange (c : Component) (radius q : ℕ) : Type 0 where
-  pub component-most : c.magnitude ≤ length_most
+-- the ranges of a component's square, a radius, and the normal's squared length q
+pub record ComponentRange (square radius q : ℕ) : Type 0 where
   pub radius-most : radius ≤ length_most
-  pub square : c.square ≡ c.magnitude * c.magnitude
-  pub squared : c.square ≤ q
+  pub squared : square ≤ q
   pub least : 0 < q
   pub most : q < 2 ^ 35
 

@@ -9,7 +9,6 @@ ghost use Rattle.offset.specs.Inverse.{length_most, ScaleOf, ComponentRange, Sta
 ghost use Rattle.offset.specs.Settled.{settled_by, sign_of};
 
 use kinds::Mode;
-use std::num::{wrapping_add_u64, wrapping_sub_u64};
 
 // A component of the normal by its sign and its magnitude, with the square of that.
 #[derive(Clone, Copy)]
@@ -17,6 +16,8 @@ pub struct Component {
     pub negative: bool,
     pub magnitude: u64,
     pub square: u64,
+    ghost short: { magnitude ≤ length_most },
+    ghost squared: { square ≡ magnitude * magnitude },
 }
 
 // The radius over √q from below, times 2^46, for a squared length q by its leading bits: the exponent's parity goes with the
@@ -34,7 +35,7 @@ pub fn scale_of(q: u64, radius: u64) -> u64
 
 // The magnitude of an offset: component × radius over √q, rounded for the component's sign.
 pub fn rounded_over(mode: Mode, component: Component, radius: u64, q: u64, scale: u64) -> u64
-    requires { ComponentRange component radius q × ScaleOf q radius scale }
+    requires { ComponentRange component.square radius q × ScaleOf q radius scale }
     ensures { (result ≡ rounded_over (mode) component.negative (component.magnitude * radius) q) × (result ≤ radius) }
 {
     let start = (component.magnitude * scale) >> 45;
@@ -63,10 +64,9 @@ fn settled(rest: u64, start: u64, square: u64, radius: u64, q: u64) -> u64
 {
     let t = (start + (2 - rest) / 2) / 2;
     let m = 2 * t + rest;
-    let limit = wrapping_add_u64(
-        square.wrapping_mul(4 * (radius * radius)),
-        (rest + t % 2) / 2,
-    );
+    let limit = square
+        .wrapping_mul(4 * (radius * radius))
+        .wrapping_add((rest + t % 2) / 2);
     t + sign_of((m * m).wrapping_mul(q), limit)
 }
 
@@ -77,7 +77,7 @@ fn settled_whole(inward: u64, start: u64, square: u64, radius: u64, q: u64) -> u
 {
     let t = (start + 1 - inward) / 2;
     let u = t + inward;
-    let limit = wrapping_add_u64(square.wrapping_mul(radius * radius), inward);
+    let limit = square.wrapping_mul(radius * radius).wrapping_add(inward);
     t + sign_of((u * u).wrapping_mul(q), limit)
 }
 
@@ -85,5 +85,5 @@ fn settled_whole(inward: u64, start: u64, square: u64, radius: u64, q: u64) -> u
 fn sign_of(a: u64, b: u64) -> u64
     ensures { (result ≡ sign_of a b) × (result ≤ 1) }
 {
-    wrapping_sub_u64(a, b) >> 63
+    a.wrapping_sub(b) >> 63
 }

@@ -2,14 +2,12 @@
 #![tactic(auto)]
 
 ghost use Rattle.std.specs.Prelude.{◌≡◌, ◌+◌, ◌-◌, ◌*◌, ◌^◌, ◌≤◌, ◌<◌, ltb};
-ghost use Rattle.cutter.specs.Accepted.{Ready};
 ghost use Rattle.numbers.specs.Least.{LeastFrom, NotPast};
 ghost use Rattle.raising.specs.Biased.{three_from, meets_one, meets_these};
 ghost use Rattle.raising.specs.Squares.{Small};
 
 use ceiling::ceiling_root;
-use maps::height_at;
-use trailer::Fields;
+use maps::Map;
 
 // The squares of the level distances along x or y: to the column or row before the point, to its own, and to the one behind.
 #[derive(Clone, Copy)]
@@ -19,21 +17,14 @@ pub struct Squares {
     pub behind: u64,
 }
 
-// x less y, or 0.
-fn less(x: u64, y: u64) -> u64
-    ensures { result ≡ x - y }
-{
-    if y <= x { x - y } else { 0 }
-}
-
 // Whether the ball at z touches the height h, whose place is the root of `apart` away. One test of squares does for three: where z is not
 // above h, 0 is below the ball's square, and where the place is not below the ball, nothing is below 0.
 fn touches(z: u64, h: u64, apart: u64, radius: u64) -> bool
     requires { (z < 2 ^ 31) × (radius < 2 ^ 22) }
     ensures { result ≡ ltb ((z - h) * (z - h)) (radius * radius - apart) }
 {
-    let above = less(z, h);
-    above * above < less(radius * radius, apart)
+    let above = z.saturating_sub(h);
+    above * above < (radius * radius).saturating_sub(apart)
 }
 
 // z raised over the height h: a root only where the ball touches it.
@@ -62,24 +53,14 @@ pub fn nudge(z: u64, h: u64, apart: u64, radius: u64) -> u64
 }
 
 // z raised over three heights of a row, those round a column; y is the square of the row's level distance.
-pub fn raise_row(
-    map: &[u8],
-    trailer: Fields,
-    column: usize,
-    row: usize,
-    x: Squares,
-    y: u64,
-    z: u64,
-) -> u64
-    requires ready { Ready map.now trailer }
-    requires le_column { (1 ≤ column) × (column + 1 < trailer.width) × (row < trailer.depth) }
+pub fn raise_row(map: Map<'_>, column: usize, row: usize, x: Squares, y: u64, z: u64) -> u64
+    requires inside { (1 ≤ column) × (column + 1 < map.trailer.width) × (row < map.trailer.depth) }
     requires small { Small x × (y < 2 ^ 36) × (z < 2 ^ 31) }
-    ensures { LeastFrom (meets_these trailer.radius (three_from map.now (row * trailer.width + column - 1) x y)) z result × (result < 2 ^ 31) }
+    ensures { LeastFrom (meets_these map.entry.trailer.radius (three_from map.entry.bytes.now (row * map.entry.trailer.width + column - 1) x y)) z result × (result < 2 ^ 31) }
 {
-    let count = trailer.width * trailer.depth;
-    let radius = trailer.radius;
-    let i = row * trailer.width + column - 1;
-    let first = raise_over(z, height_at(map, i, count), x.before + y, radius);
-    let second = raise_over(first, height_at(map, i + 1, count), x.own + y, radius);
-    raise_over(second, height_at(map, i + 2, count), x.behind + y, radius)
+    let radius = map.trailer.radius;
+    let i = row * map.trailer.width + column - 1;
+    let first = raise_over(z, map.height_at(i), x.before + y, radius);
+    let second = raise_over(first, map.height_at(i + 1), x.own + y, radius);
+    raise_over(second, map.height_at(i + 2), x.behind + y, radius)
 }

@@ -14,7 +14,7 @@ use Rattle.words.specs.Splice.{splice}
 use Rattle.words.specs.Joined.{joined}
 use Rattle.words.proofs.Splicing.{splice-again}
 use Rattle.words.proofs.Standing.{stands-splice, stands_at, behind-word}
-use Rattle.words.proofs.Runs.{Written, written-more, written_all, length-joined, joined_same, joined_word}
+use Rattle.words.proofs.Runs.{joined-more, length-joined, joined_same, joined_word}
 use Rattle.trailer.specs.declared.Fields.{Fields}
 use Rattle.cutter.specs.Centre.{Centre, coordinate, centre_of, point_at, record_bytes}
 use Rattle.cutter.specs.Lift.{lifted}
@@ -37,8 +37,9 @@ module _ (m : List ℕ) (t : Fields) (row : ℕ) (l₀ : List ℕ) (room : 12 * 
   abbrev first : ℕ
   first = row * (12 * (t.width - 2))
 
+  -- after n turns the first n are lifted
   abbrev So : List ℕ → ℕ → Type 0
-  So l n = Written (lifted_record m t row l₀) first (t.width - 2) l₀ l n
+  So l n = l ≡ splice first (joined (lifted_record m t row l₀) n) l₀
 
   -- the records behind those that are lifted still stand
   still : (l : List ℕ) (n : ℕ) → So l n → n < t.width - 2 → standing t row l n ≡ standing t row l₀ n
@@ -47,32 +48,27 @@ module _ (m : List ℕ) (t : Fields) (row : ℕ) (l₀ : List ℕ) (room : 12 * 
       let at : first ≤ length l₀ = omega (arith, row_room (t.width - 2) (t.depth - 2) row (length l₀) below room) in
       let long : length b ≡ n * 12 = length-joined (lifted_record m t row l₀) 12 (length-lifted m t row l₀) n in
       let word : (j : ℕ) → word_at l (first + n * 12 + j) ≡ word_at l₀ (first + n * 12 + j) =
-      λ j. ap (λ (x : List ℕ). word_at x (first + n * 12 + j)) v.is ∙ behind-word first b l₀ (first + n * 12 + j) at (omega arith) in
+      λ j. ap (λ (x : List ℕ). word_at x (first + n * 12 + j)) v ∙ behind-word first b l₀ (first + n * 12 + j) at (omega arith) in
       let zero_is : word_at l (first + n * 12) ≡ word_at l₀ (first + n * 12) =
-      ap (λ (x : List ℕ). word_at x (first + n * 12)) v.is ∙ behind-word first b l₀ (first + n * 12) at (omega arith) in
+      ap (λ (x : List ℕ). word_at x (first + n * 12)) v ∙ behind-word first b l₀ (first + n * 12) at (omega arith) in
       cc (zero_is, word 4, word 8)
 
-  pub reaches-still : (l : List ℕ) (n : ℕ) → RowReaches t row l₀ → So l n → n < t.width - 2
-      → Reaches t.step (n + 1) (row + 1) (centre_read l (first + n * 12))
-  reaches-still l n r v more = subst (Reaches t.step (n + 1) (row + 1)) (sym (still l n v more)) (r.each n more)
+  pub reaches-still : (l : List ℕ) (n i : ℕ) → RowReaches t row l₀ → So l n → n < t.width - 2 → i ≡ first
+      → Reaches t.step (n + 1) (row + 1) (centre_read l (i + n * 12))
+  reaches-still l n i r v more is =
+      subst (Reaches t.step (n + 1) (row + 1)) (sym (still l n v more) ∙ ap (λ i. centre_read l (i + n * 12)) (sym is)) (r.each n more)
 
-  pub lifts-more : (l l₁ : List ℕ) (n : ℕ) → So l n → n < t.width - 2
-      → l₁ ≡ splice (first + n * 12) (record_bytes (lifted m t.width t.step t.radius (n + 1) (row + 1) (centre_read l (first + n * 12)))) l
-      → length l₁ ≡ length l → So l₁ (n + 1)
+  pub lifts-more : (l l₁ : List ℕ) (n i : ℕ) (k : Centre → Centre) → So l n → n < t.width - 2 → i ≡ first
+      → l₁ ≡ splice (i + n * 12) (record_bytes (k (centre_read l (i + n * 12)))) l
+      → ((c : Centre) → k c ≡ lifted m t.width t.step t.radius (n + 1) (row + 1) c) → So l₁ (n + 1)
   unfolding lifted_record
-  lifts-more l l₁ n v more e long =
-      written-more (lifted_record m t row l₀) 12 (length-lifted m t row l₀) first (t.width - 2) l₀ l l₁ n
-      (row_room (t.width - 2) (t.depth - 2) row (length l₀) below room) v more
-      (e ∙ ap (λ (k : Centre). splice (first + n * 12) (record_bytes (lifted m t.width t.step t.radius (n + 1) (row + 1) k)) l) (still l n v more))
-      long
-
-  pub record-room : (l : List ℕ) (n : ℕ) → So l n → n < t.width - 2 → first + n * 12 + 12 ≤ length l
-  record-room l n v more = omega (arith, v.long, row_room (t.width - 2) (t.depth - 2) row (length l₀) below room)
-
-pub row-lifted : (m : List ℕ) (t : Fields) (row : ℕ) (l₀ l : List ℕ) (n : ℕ)
-    → Written (lifted_record m t row l₀) (row * (12 * (t.width - 2))) (t.width - 2) l₀ l n → t.width - 2 ≤ n
-    → l ≡ splice (row * (12 * (t.width - 2))) (joined (lifted_record m t row l₀) (t.width - 2)) l₀
-row-lifted m t row l₀ l n v h = written_all (lifted_record m t row l₀) (row * (12 * (t.width - 2))) (t.width - 2) l₀ l n v h
+  lifts-more l l₁ n i k v more is e same =
+      joined-more (lifted_record m t row l₀) 12 (length-lifted m t row l₀) first n l₀ l l₁
+      (omega (arith, row_room (t.width - 2) (t.depth - 2) row (length l₀) below room)) v
+      (e
+      ∙ ap (λ (i : ℕ). splice (i + n * 12) (record_bytes (k (centre_read l (i + n * 12)))) l) is
+      ∙ ap (λ (c : Centre). splice (first + n * 12) (record_bytes c) l) (same (centre_read l (first + n * 12)))
+      ∙ ap (λ (c : Centre). splice (first + n * 12) (record_bytes (lifted m t.width t.step t.radius (n + 1) (row + 1) c)) l) (still l n v more))
 
 -- ---- the row that was put
 

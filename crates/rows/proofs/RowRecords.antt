@@ -2,19 +2,20 @@
 use mathlib.Core.Path.{◌≡◌, sym, ap, ◌∙◌}
 use mathlib.Core.List.{List}
 use Prim.Native.Nat.{ℕ, ◌+◌, ◌-◌, ◌*◌, ◌/◌, ◌%◌, ◌≤◌, ◌<◌}
-use native.Mathlib.Nat.{zero-add, mul_comm, mul-le-mul, mod-eq_of_lt, div-eq_of_lt, add-mul-div_right, add-mul-mod_self_right}
+use mathlib.Core.List.{append-nil}
+use lib.ListN.{take-append-drop}
+use native.Mathlib.Nat.{zero-add, add-zero, mul_comm, mul-le-mul, mod-eq_of_lt, div-eq_of_lt, add-mul-div_right, add-mul-mod_self_right}
 use native.Mathlib.Omega.{arith}
 use lib.ListN.{length}
 use mir.Val.{Fits}
 use mir.Syntax.{w64}
-use Rattle.kinds.specs.Rounding.{mode_of}
 use Rattle.kinds.specs.declared.Mode.{Mode}
 use Rattle.kinds.specs.declared.Rule.{Rule}
 use Rattle.kinds.specs.declared.Rule.TheVariants.{Touching}
 use Rattle.words.specs.Splice.{splice}
 use Rattle.words.specs.Joined.{joined}
-use Rattle.words.proofs.Runs.{Written, written-more, written_all, room-left, length-joined, joined-rows}
-use Rattle.cutter.specs.Centre.{centre_of, point_at, record_bytes}
+use Rattle.words.proofs.Runs.{joined-more, room-left, length-joined, joined-rows}
+use Rattle.cutter.specs.Centre.{Centre, centre_of, point_at, record_bytes}
 use Rattle.cutter.specs.List.{count_of, centre_by, record_at}
 use Rattle.cutter.specs.Accepted.{Sizes, Ready}
 use Rattle.cutter.specs.Map.{Inner, trailer_of}
@@ -75,64 +76,48 @@ row_room k rows row n h r =
     let f : row * (12 * k) + 12 * k ≤ n = room-left (12 * k) row rows n h (omega arith) in
     omega arith
 
-module _ (mode : Mode) (m : List ℕ) (t : Fields) (row : ℕ) (l₀ : List ℕ) where
-  points-more : (l l₁ : List ℕ) (n : ℕ) → 12 * count_of t.width t.depth ≤ length l₀ → row < t.depth - 2 → Ready m t
-      → Written (row_record Touching mode m (t.width - 2) row) (row * (12 * (t.width - 2))) (t.width - 2) l₀ l n → n < t.width - 2
-      → l₁ ≡ splice (row * (12 * (t.width - 2)) + n * 12) (record_bytes (centre_of mode t.step t.radius (point_at m t.width (n + 1) (row + 1)))) l
-      → length l₁ ≡ length l → Written (row_record Touching mode m (t.width - 2) row) (row * (12 * (t.width - 2))) (t.width - 2) l₀ l₁ (n + 1)
-  points-more l l₁ n h r a v more e long =
-      let at = row * (12 * (t.width - 2)) in
-      written-more (row_record Touching mode m (t.width - 2) row) 12 (length-row-record Touching mode m (t.width - 2) row) at (t.width - 2) l₀ l l₁ n
-      (row_room (t.width - 2) (t.depth - 2) row (length l₀) r h) v more
-      (e ∙ ap (λ (b : List ℕ). splice (at + n * 12) b l) (record_is Touching mode m t n row a.is more))
-      long
+-- after n turns the row's first n records are put
+module _ (mode : Mode) (m : List ℕ) (t : Fields) (row : ℕ) (l₀ : List ℕ) (room : 12 * count_of t.width t.depth ≤ length l₀) (below : row < t.depth - 2) (r : Ready m t) where
+  abbrev at : ℕ
+  at = row * (12 * (t.width - 2))
 
-  -- a point at a rounding that is known, where the ways of the roundings meet
-  pub points-known : (known : Mode) (l l₁ l₂ : List ℕ) (n : ℕ) → mode ≡ known → 12 * count_of t.width t.depth ≤ length l₀ → row < t.depth - 2
-      → Ready m t → Written (row_record Touching mode m (t.width - 2) row) (row * (12 * (t.width - 2))) (t.width - 2) l₀ l n → n < t.width - 2
-      → l₁ ≡ splice (row * (12 * (t.width - 2)) + n * 12) (record_bytes (centre_of known t.step t.radius (point_at m t.width (n + 1) (row + 1)))) l
-      → length l₁ ≡ length l → l₂ ≡ l₁
-      → Written (row_record Touching mode m (t.width - 2) row) (row * (12 * (t.width - 2))) (t.width - 2) l₀ l₂ (n + 1)
-  points-known known l l₁ l₂ n z h r a v more e long same =
-      points-more l l₂ n h r a v more
-      (same
-      ∙ e
-      ∙ ap
-      (λ (x : Mode). splice (row * (12 * (t.width - 2)) + n * 12) (record_bytes (centre_of x t.step t.radius (point_at m t.width (n + 1) (row + 1)))) l)
-      (sym z))
-      (ap length same ∙ long)
+  abbrev f : ℕ → List ℕ
+  f = row_record Touching mode m (t.width - 2) row
 
-  pub point-room : (l : List ℕ) (n : ℕ) → 12 * count_of t.width t.depth ≤ length l₀ → row < t.depth - 2
-      → Written (row_record Touching mode m (t.width - 2) row) (row * (12 * (t.width - 2))) (t.width - 2) l₀ l n → n < t.width - 2
-      → row * (12 * (t.width - 2)) + n * 12 + 12 ≤ length l
-  point-room l n h r v more = omega (arith, v.long, row_room (t.width - 2) (t.depth - 2) row (length l₀) r h)
+  pub points-more : (l l₁ : List ℕ) (n first : ℕ) (k : Centre) → l ≡ splice at (joined f n) l₀ → n < t.width - 2 → first ≡ at
+      → l₁ ≡ splice (first + n * 12) (record_bytes k) l → k ≡ centre_of mode t.step t.radius (point_at m t.width (n + 1) (row + 1))
+      → l₁ ≡ splice at (joined f (n + 1)) l₀
+  points-more l l₁ n first k v more is e same =
+      joined-more f 12 (length-row-record Touching mode m (t.width - 2) row) at n l₀ l l₁
+      (omega (arith, row_room (t.width - 2) (t.depth - 2) row (length l₀) below room)) v
+      (e ∙ ap (λ (x : ℕ). splice (x + n * 12) (record_bytes k) l) is
+      ∙ ap (λ (k : Centre). splice (at + n * 12) (record_bytes k) l) same
+      ∙ ap (λ (b : List ℕ). splice (at + n * 12) b l) (record_is Touching mode m t n row r.is more))
 
-  pub row_put : (l : List ℕ) (n : ℕ) → Written (row_record Touching mode m (t.width - 2) row) (row * (12 * (t.width - 2))) (t.width - 2) l₀ l n
-      → t.width - 2 ≤ n → l ≡ splice (row * (12 * (t.width - 2))) (row_bytes Touching mode m (t.width - 2) row) l₀
+  pub row_put : (l : List ℕ) (n : ℕ) → l ≡ splice at (joined f n) l₀ → n ≡ t.width - 2
+      → l ≡ splice at (row_bytes Touching mode m (t.width - 2) row) l₀
   unfolding row_bytes
-  row_put l n v h = written_all (row_record Touching mode m (t.width - 2) row) (row * (12 * (t.width - 2))) (t.width - 2) l₀ l n v h
+  row_put l n v e = v ∙ ap (λ (n : ℕ). splice at (joined f n) l₀) e
 
--- a record put at the rounding with a number
-pub put-known : (mode : Mode) (number : ℕ) (m : List ℕ) (t : Fields) (at n row : ℕ) (l l₁ : List ℕ) → mode ≡ mode_of number
-    → l₁ ≡ splice at (record_bytes (centre_of mode t.step t.radius (point_at m t.width (n + 1) (row + 1)))) l
-    → l₁ ≡ splice at (record_bytes (centre_of (mode_of number) t.step t.radius (point_at m t.width (n + 1) (row + 1)))) l
-put-known mode number m t at n row l l₁ z e =
-    e ∙ ap (λ (x : Mode). splice at (record_bytes (centre_of x t.step t.radius (point_at m t.width (n + 1) (row + 1)))) l) z
+-- none
+pub put_none : (f : ℕ → List ℕ) (at : ℕ) (l : List ℕ) → l ≡ splice at (joined f 0) l
+unfolding joined splice
+put_none f at l = sym (simp (add-zero, append-nil, take-append-drop))
 
 -- ---- all rows
 
 module _ (rule : Rule) (mode : Mode) (m : List ℕ) (k rows : ℕ) (l₀ : List ℕ) where
-  pub rows_more : (l l₁ : List ℕ) (row : ℕ) → 12 * (k * rows) ≤ length l₀ → Written (row_bytes rule mode m k) 0 rows l₀ l row → row < rows
-      → l₁ ≡ splice (row * (12 * k)) (row_bytes rule mode m k row) l → length l₁ ≡ length l → Written (row_bytes rule mode m k) 0 rows l₀ l₁ (row + 1)
-  rows_more l l₁ row h v more e long =
-      let w : rows * (12 * k) ≡ 12 * (k * rows) = omega arith in
-      written-more (row_bytes rule mode m k) (12 * k) (length-row rule mode m k) 0 rows l₀ l l₁ row (omega arith) v more
+  pub rows_more : (l l₁ : List ℕ) (row : ℕ) → 12 * (k * rows) ≤ length l₀ → l ≡ splice 0 (joined (row_bytes rule mode m k) row) l₀ → row < rows
+      → l₁ ≡ splice (row * (12 * k)) (row_bytes rule mode m k row) l → l₁ ≡ splice 0 (joined (row_bytes rule mode m k) (row + 1)) l₀
+  rows_more l l₁ row h v more e =
+      joined-more (row_bytes rule mode m k) (12 * k) (length-row rule mode m k) 0 row l₀ l l₁
+      (omega (arith, room-left (12 * k) row rows (length l₀) more (omega arith))) v
       (e ∙ ap (λ (x : ℕ). splice x (row_bytes rule mode m k row) l) (sym (zero-add (row * (12 * k)))))
-      long
 
-  pub rows-put : (l : List ℕ) (row : ℕ) → Written (row_bytes rule mode m k) 0 rows l₀ l row → rows ≤ row
+  pub rows-put : (l : List ℕ) (row : ℕ) → l ≡ splice 0 (joined (row_bytes rule mode m k) row) l₀ → row ≡ rows
       → l ≡ splice 0 (joined (record_at rule mode m) (k * rows)) l₀
   unfolding row_bytes row_record
-  rows-put l row v h =
-      written_all (row_bytes rule mode m k) 0 rows l₀ l row v h
+  rows-put l row v e =
+      v
+      ∙ ap (λ (n : ℕ). splice 0 (joined (row_bytes rule mode m k) n) l₀) e
       ∙ ap (λ (b : List ℕ). splice 0 b l₀) (joined-rows (record_at rule mode m) k rows ∙ ap (joined (record_at rule mode m)) (mul_comm rows k))

@@ -4,127 +4,125 @@
 ghost use Rattle.std.specs.Prelude.{◌≡◌, ◌+◌, ◌-◌, ◌*◌, ◌≤◌, ◌<◌, length};
 ghost use Rattle.words.specs.Splice.{splice};
 ghost use Rattle.words.specs.Joined.{joined};
-ghost use Rattle.cutter.specs.Centre.{centre_of, point_at, record_bytes};
 ghost use Rattle.cutter.specs.List.{count_of, record_at};
-ghost use Rattle.cutter.specs.Accepted.{Ready};
-ghost use Rattle.kinds.specs.Rounding.{mode_of};
 ghost use Rattle.kinds.specs.declared.Rule.TheVariants.{Touching};
 ghost use Rattle.centres.specs.Prepared.{RowHeld};
 ghost use Rattle.rows.specs.Row.{row_bytes, lifted_record, RowReaches};
 
-use centres::{kept, prepare, put_point};
+use centres::{Prepared, prepare, put_point};
 use kinds::{Mode, Rule};
 use lift::lift_record;
-use trailer::Fields;
+use maps::{Map, Point};
 
 // The records of all inner points, row by row, from the front on: a row is prepared first, which knows no rounding.
-pub fn put_points(rule: Rule, mode: Mode, map: &[u8], out: &mut [u8], trailer: Fields)
-    requires ready { Ready map.now trailer }
-    requires depth_in_bounds { 12 * count_of trailer.width trailer.depth ≤ length out.old }
-    ensures { out.new ≡ splice 0 (joined (record_at rule mode map.now) (count_of trailer.width trailer.depth)) out.old }
+pub fn put_points(rule: Rule, mode: Mode, map: Map<'_>, out: &mut [u8])
+    requires room { 12 * count_of map.trailer.width map.trailer.depth ≤ length out.old }
+    ensures { out.new ≡ splice 0 (joined (record_at rule mode map.entry.bytes.now) (count_of map.entry.trailer.width map.entry.trailer.depth)) out.old }
 {
-    let mut held: [u64; 320] = [0; 320];
-    let rows = trailer.depth - 2;
-    let mut row: usize = 0;
-    while row < rows {
-        prepare_row(map, &mut held, trailer, row);
-        put_row_by(rule, mode, map, out, &held, trailer, row);
-        row += 1;
+    let mut held = [Prepared::none(); 62];
+    for row in 0..map.trailer.depth - 2 {
+        let row = Row { map, row };
+        prepare_row(row, &mut held);
+        put_row_by(rule, mode, row, &held, out);
+    }
+}
+
+// A row of a map's inner points; rows and points are counted from 0.
+#[derive(Clone, Copy)]
+struct Row<'a> {
+    map: Map<'a>,
+    row: usize,
+    ghost below: { row < map.trailer.depth - 2 },
+}
+
+impl<'a> Row<'a> {
+    // How many inner points it has.
+    fn count(self) -> usize
+        ensures { result ≡ self.entry.map.trailer.width - 2 }
+    {
+        self.map.trailer.width - 2
+    }
+
+    // Where its records begin in a list.
+    fn first(self) -> usize
+        ensures { result ≡ self.entry.row * (12 * (self.entry.map.trailer.width - 2)) }
+    {
+        self.row * (12 * self.count())
+    }
+
+    fn point(self, n: usize) -> Point<'a>
+        requires { n < self.map.trailer.width - 2 }
+        ensures { (result.map ≡ self.entry.map) × (result.column ≡ n + 1) × (result.row ≡ self.entry.row + 1) }
+    {
+        Point {
+            map: self.map,
+            column: n + 1,
+            row: self.row + 1,
+        }
     }
 }
 
 // Prepares the inner points of a row.
-fn prepare_row(map: &[u8], held: &mut [u64; 320], trailer: Fields, row: usize)
-    requires ready { Ready map.now trailer }
-    requires row_bound { (row < trailer.depth - 2) × (length held.old ≡ 320) }
-    ensures { RowHeld map.now trailer row (trailer.width - 2) held.new × (length held.new ≡ 320) }
+fn prepare_row(row: Row<'_>, held: &mut [Prepared])
+    requires { row.map.trailer.width - 2 ≤ length held.old }
+    ensures { RowHeld row.entry.map.bytes.now row.entry.map.trailer row.entry.row (row.entry.map.trailer.width - 2) held.new }
 {
-    let count = trailer.width - 2;
-    let mut n: usize = 0;
-    while n < count {
-        prepare(map, held, trailer, n, row);
-        n += 1;
+    for n in 0..row.count() {
+        held[n] = prepare(row.point(n));
     }
 }
 
 // The records of one row, behind those of the rows before it, by a rule.
-fn put_row_by(
-    rule: Rule,
-    mode: Mode,
-    map: &[u8],
-    out: &mut [u8],
-    held: &[u64; 320],
-    trailer: Fields,
-    row: usize,
-)
-    requires ready { Ready map.now trailer }
-    requires row_bound { row < trailer.depth - 2 }
-    requires depth_in_bounds { 12 * count_of trailer.width trailer.depth ≤ length out.old }
-    requires row_held { RowHeld map.now trailer row (trailer.width - 2) held.now }
-    ensures { out.new ≡ splice (row * (12 * (trailer.width - 2))) (row_bytes rule mode map.now (trailer.width - 2) row) out.old }
+fn put_row_by(rule: Rule, mode: Mode, row: Row<'_>, held: &[Prepared], out: &mut [u8])
+    requires room { 12 * count_of row.map.trailer.width row.map.trailer.depth ≤ length out.old }
+    requires places { row.map.trailer.width - 2 ≤ length held.now }
+    requires row_held { RowHeld row.map.bytes.now row.map.trailer row.row (row.map.trailer.width - 2) held.now }
+    ensures { out.new ≡ splice (row.entry.row * (12 * (row.entry.map.trailer.width - 2))) (row_bytes rule mode row.entry.map.bytes.now (row.entry.map.trailer.width - 2) row.entry.row) out.old }
 {
-    put_row(mode, map, out, held, trailer, row);
+    put_row(mode, row, held, out);
     match rule {
         Rule::Touching => {}
-        Rule::Lifted => lift_row(map, out, trailer, row),
+        Rule::Lifted => lift_row(row, out),
     }
 }
 
-// The records of a row before the lift. Each rounding has a call of its own and is chosen before the loop, as nothing else is in it.
-fn put_row(mode: Mode, map: &[u8], out: &mut [u8], held: &[u64; 320], trailer: Fields, row: usize)
-    requires ready { Ready map.now trailer }
-    requires row_bound { row < trailer.depth - 2 }
-    requires depth_in_bounds { 12 * count_of trailer.width trailer.depth ≤ length out.old }
-    requires row_held { RowHeld map.now trailer row (trailer.width - 2) held.now }
-    ensures { out.new ≡ splice (row * (12 * (trailer.width - 2))) (row_bytes Touching mode map.now (trailer.width - 2) row) out.old }
+// The records of a row before the lift. Each rounding has a loop of its own, as nothing else is in it.
+fn put_row(mode: Mode, row: Row<'_>, held: &[Prepared], out: &mut [u8])
+    requires room { 12 * count_of row.map.trailer.width row.map.trailer.depth ≤ length out.old }
+    requires places { row.map.trailer.width - 2 ≤ length held.now }
+    requires row_held { RowHeld row.map.bytes.now row.map.trailer row.row (row.map.trailer.width - 2) held.now }
+    ensures { out.new ≡ splice (row.entry.row * (12 * (row.entry.map.trailer.width - 2))) (row_bytes Touching mode row.entry.map.bytes.now (row.entry.map.trailer.width - 2) row.entry.row) out.old }
 {
-    let count = trailer.width - 2;
-    let mut n: usize = 0;
-    while n < count {
-        match mode {
-            Mode::Nearest => put_held(0, map, out, held, trailer, row, n),
-            Mode::Up => put_held(1, map, out, held, trailer, row, n),
-            Mode::Down => put_held(2, map, out, held, trailer, row, n),
-            Mode::TowardZero => put_held(3, map, out, held, trailer, row, n),
-        }
-        n += 1;
+    match mode {
+        Mode::Nearest => put_row_at(Mode::Nearest, row, held, out),
+        Mode::Up => put_row_at(Mode::Up, row, held, out),
+        Mode::Down => put_row_at(Mode::Down, row, held, out),
+        Mode::TowardZero => put_row_at(Mode::TowardZero, row, held, out),
     }
 }
 
-// The record of point n of a row before the lift, at the rounding with this number.
-fn put_held(
-    number: u8,
-    map: &[u8],
-    out: &mut [u8],
-    held: &[u64; 320],
-    trailer: Fields,
-    row: usize,
-    n: usize,
-)
-    requires ready { Ready map.now trailer }
-    requires row_bound { (row < trailer.depth - 2) × (n < trailer.width - 2) }
-    requires n_in_bounds { row * (12 * (trailer.width - 2)) + n * 12 + 12 ≤ length out.old }
-    requires row_held { RowHeld map.now trailer row (trailer.width - 2) held.now }
-    ensures { out.new ≡ splice (row * (12 * (trailer.width - 2)) + n * 12) (record_bytes (centre_of (mode_of number) trailer.step trailer.radius (point_at map.now trailer.width (n + 1) (row + 1)))) out.old }
+#[inline(always)]
+fn put_row_at(mode: Mode, row: Row<'_>, held: &[Prepared], out: &mut [u8])
+    requires room { 12 * count_of row.map.trailer.width row.map.trailer.depth ≤ length out.old }
+    requires places { row.map.trailer.width - 2 ≤ length held.now }
+    requires row_held { RowHeld row.map.bytes.now row.map.trailer row.row (row.map.trailer.width - 2) held.now }
+    ensures { out.new ≡ splice (row.entry.row * (12 * (row.entry.map.trailer.width - 2))) (row_bytes Touching mode row.entry.map.bytes.now (row.entry.map.trailer.width - 2) row.entry.row) out.old }
 {
-    let at = row * (12 * (trailer.width - 2)) + n * 12;
-    let mode = Mode::of(number);
-    put_point(mode, map, out, trailer, n + 1, row + 1, kept(held, n), at);
+    let first = row.first();
+    for n in 0..row.count() {
+        let p = held[n];
+        put_point(mode, row.point(n), p, out, first + n * 12);
+    }
 }
 
 // Lifts the records of a row.
-fn lift_row(map: &[u8], out: &mut [u8], trailer: Fields, row: usize)
-    requires ready { Ready map.now trailer }
-    requires row_bound { row < trailer.depth - 2 }
-    requires depth_in_bounds { 12 * count_of trailer.width trailer.depth ≤ length out.old }
-    requires row_reaches { RowReaches trailer row out.old }
-    ensures { out.new ≡ splice (row * (12 * (trailer.width - 2))) (joined (lifted_record map.now trailer row out.old) (trailer.width - 2)) out.old }
+fn lift_row(row: Row<'_>, out: &mut [u8])
+    requires room { 12 * count_of row.map.trailer.width row.map.trailer.depth ≤ length out.old }
+    requires row_reaches { RowReaches row.map.trailer row.row out.old }
+    ensures { out.new ≡ splice (row.entry.row * (12 * (row.entry.map.trailer.width - 2))) (joined (lifted_record row.entry.map.bytes.now row.entry.map.trailer row.entry.row out.old) (row.entry.map.trailer.width - 2)) out.old }
 {
-    let count = trailer.width - 2;
-    let first = row * (12 * count);
-    let mut n: usize = 0;
-    while n < count {
-        lift_record(map, out, trailer, n + 1, row + 1, first + n * 12);
-        n += 1;
+    let first = row.first();
+    for n in 0..row.count() {
+        lift_record(row.point(n), out, first + n * 12);
     }
 }

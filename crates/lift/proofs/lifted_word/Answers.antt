@@ -6,5 +6,5 @@ use Rattle.lift.proofs.lifted_word.Goals as goal
 pub returns : goal.returns
 returns c = search word-lifted
 
-pub lift-requires-clause-magnitude_le_radius_most : goal.lift-requires-clause-magnitude_le_radius_most
-lift-requires-clause-magnitude_le_radius_most c = (search rules, search rules, search (biased-small, rules))
+pub lift-requires-clause-biased : goal.lift-requires-clause-biased
+lift-requires-clause-biased c = search (biased-small, rules)

@@ -8,5 +8,5 @@ put-requires c = search trailer-room
 pub returns : goal.returns
 returns c = (search length-of, search list_put)
 
-pub put_points-requires-clause-depth_in_bounds : goal.put_points-requires-clause-depth_in_bounds
-put_points-requires-clause-depth_in_bounds c = search records-room
+pub put_points-requires : goal.put_points-requires
+put_points-requires c = search records-room

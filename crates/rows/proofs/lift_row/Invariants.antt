@@ -1,11 +1,10 @@
 -- `rows::lift_row` meets its contract: after n turns the row's first n records are lifted, and the others still stand. Assumes nothing.
-use Prim.Native.Nat.{◌-◌, ◌*◌}
+use Rattle.std.proofs.Common.{◌≡◌, ◌-◌, ◌*◌}
+use Rattle.words.specs.Splice.{splice}
+use Rattle.words.specs.Joined.{joined}
 use Rattle.rows.specs.Row.{lifted_record}
-use Rattle.words.proofs.Runs.{Written}
 use Rattle.rows.proofs.lift_row.Given as goal
 
 abbrev pub invariant-loop-n : goal.invariant-loop-n
-invariant-loop-n l = Written (lifted_record l.map l.trailer l.row l.initial.out) (l.row * (12 * (l.trailer.width - 2))) (l.trailer.width - 2) l.initial.out l.out l.n
-
-abbrev pub decreases-loop-n : goal.decreases-loop-n
-decreases-loop-n l = l.trailer.width - 2 - l.n
+invariant-loop-n l =
+    l.out ≡ splice (l.row.row * (12 * (l.row.map.trailer.width - 2))) (joined (lifted_record l.row.map.bytes.now l.row.map.trailer l.row.row l.fn.out) l.n) l.fn.out
