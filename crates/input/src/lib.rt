@@ -57,12 +57,8 @@ fn read_again<R: Read>(input: &mut R, bytes: &mut [u8]) -> Result<usize>
 {
     for _ in 0..u64::MAX {
         match input.read(bytes) {
-            Ok(n) => return Ok(n),
-            Err(error) => {
-                if error.kind() != ErrorKind::Interrupted {
-                    return Err(error);
-                }
-            }
+            Err(error) if error.kind() == ErrorKind::Interrupted => {}
+            answer => return answer,
         }
     }
     input.read(bytes)

@@ -74,12 +74,8 @@ fn write_again<W: Write>(out: &mut W, bytes: &[u8]) -> Result<usize>
 {
     for _ in 0..u64::MAX {
         match out.write(bytes) {
-            Ok(n) => return Ok(n),
-            Err(error) => {
-                if error.kind() != ErrorKind::Interrupted {
-                    return Err(error);
-                }
-            }
+            Err(error) if error.kind() == ErrorKind::Interrupted => {}
+            answer => return answer,
         }
     }
     out.write(bytes)
@@ -98,8 +94,6 @@ fn say(rt: &HostRuntime, stream: &str, error: &Error) -> Result<()> {
 
 // The system's words alone: the text of an error has the system's number behind them.
 fn without_number(text: &str) -> &str {
-    match text.split_once(" (os error ") {
-        Some((words, _)) => words,
-        None => text,
-    }
+    text.split_once(" (os error ")
+        .map_or(text, |(words, _)| words)
 }
