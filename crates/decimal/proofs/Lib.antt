@@ -1,2 +1,2 @@
 pub mod Digits
-pub mod Putting
+pub mod Standard

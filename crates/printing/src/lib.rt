@@ -1,32 +1,18 @@
-// The lines of a list as text, put number by number.
+// The lines of a list as text, and text put into a lent buffer.
 #![tactic(auto)]
 
-ghost use Rattle.std.specs.Prelude.{[], ◌∷◌, ◌+◌, ◌*◌, ◌≤◌, ◌<◌, length, pos};
+ghost use Rattle.std.specs.Prelude.{◌≡◌, [], ◌∷◌, ◌+◌, ◌*◌, ◌≤◌, ◌<◌, length};
 ghost use Rattle.words.specs.Joined.{joined};
-ghost use Rattle.trailer.specs.Bytes.{InRange};
-ghost use Rattle.trailer.specs.declared.Kind.TheVariants.{Plt1};
 ghost use Rattle.cutter.specs.List.{entry_at};
-ghost use Rattle.decimal.specs.Put.{PutAt};
-ghost use Rattle.printing.specs.Line.{followed, line};
+ghost use Rattle.printing.specs.Put.{PutAt};
+ghost use Rattle.printing.specs.Line.{line};
 ghost use Rattle.printing.specs.Entries.{entry_line};
 
-use decimal::put_number;
-use trailer::Fields;
-use words::{Signed, signed_of, word_at};
+use arrayvec::ArrayString;
+use decimal::push_number;
+use words::{i32_of, word_at};
 
-// Width, depth, step and radius.
-pub fn put_sizes(out: &mut [u8], trailer: Fields) -> usize
-    requires in_bounds { 48 ≤ length out.old }
-    requires in_range { InRange Plt1 trailer }
-    ensures { PutAt 0 48 (line (pos trailer.width ∷ pos trailer.depth ∷ pos trailer.step ∷ pos trailer.radius ∷ [])) out.old result out.new }
-{
-    let width = put_whole(out, 0, trailer.width as u64, b' ');
-    let depth = put_whole(out, width, trailer.depth as u64, b' ');
-    let step = put_whole(out, depth, trailer.step, b' ');
-    put_whole(out, step, trailer.radius, b'\n')
-}
-
-// A line for each of so many records of a map with so many inner columns.
+// Puts a line for each of so many records of a map with so many inner columns, from `start` on; the place behind them.
 pub fn put_records(out: &mut [u8], start: usize, list: &[u8], columns: usize, count: usize) -> usize
     requires columns_nonzero { (0 < columns) × (count < 1000000000) }
     requires count_in_bounds { 12 * count ≤ length list.now }
@@ -34,49 +20,56 @@ pub fn put_records(out: &mut [u8], start: usize, list: &[u8], columns: usize, co
     ensures { PutAt start (60 * count) (joined (entry_line list.now columns) count) out.old result out.new }
 {
     let mut at = start;
-    let mut n: usize = 0;
-    while n < count {
-        at = put_record(out, at, list, columns, n);
-        n += 1;
+    for n in 0..count {
+        at = put(out, at, record_line(list, columns, n).as_str());
     }
     at
 }
 
-// Column, row, x, y and z of record n.
-fn put_record(out: &mut [u8], at: usize, list: &[u8], columns: usize, n: usize) -> usize
-    requires columns_nonzero { (0 < columns) × (n < 1000000000) }
-    requires n_in_bounds { 12 * n + 12 ≤ length list.now }
-    requires at_in_bounds { at + 60 ≤ length out.old }
-    ensures { PutAt at 60 (entry_line list.now columns n) out.old result out.new }
+// Puts a text from `at` on; the place behind it.
+pub fn put(out: &mut [u8], at: usize, text: &str) -> usize
+    requires { at + length text.now ≤ length out.old }
+    ensures { PutAt at (length text.now) text.now out.old result out.new }
 {
-    let column = put_whole(out, at, (n % columns + 1) as u64, b' ');
-    let row = put_whole(out, column, (n / columns + 1) as u64, b' ');
-    let x = put_entry(out, row, list, n, 0, b' ');
-    let y = put_entry(out, x, list, n, 1, b' ');
-    put_entry(out, y, list, n, 2, b'\n')
+    let end = at + text.len();
+    out[at..end].copy_from_slice(text.as_bytes());
+    end
 }
 
-pub fn put_whole(out: &mut [u8], at: usize, x: u64, behind: u8) -> usize
-    requires { (at + 12 ≤ length out.old) × (x < 10000000000) }
-    ensures { PutAt at 12 (followed (pos x) behind) out.old result out.new }
+// Column, row, x, y and z of record n.
+fn record_line(list: &[u8], columns: usize, n: usize) -> ArrayString<60>
+    requires columns_nonzero { (0 < columns) × (n < 1000000000) }
+    requires n_in_bounds { 12 * n + 12 ≤ length list.now }
+    ensures { result.bytes ≡ entry_line list.now columns n }
 {
-    put_number(
-        out,
-        at,
-        Signed {
-            negative: false,
-            magnitude: x,
-        },
-        behind,
-    )
+    let column = (n % columns + 1) as i32;
+    let row = (n / columns + 1) as i32;
+    let x = entry(list, n, 0);
+    let y = entry(list, n, 1);
+    let z = entry(list, n, 2);
+    line(&[column, row, x, y, z])
+}
+
+// A line of up to five numbers.
+pub fn line(numbers: &[i32]) -> ArrayString<60>
+    requires { (0 < length numbers.now) × (length numbers.now ≤ 5) }
+    ensures text { result.bytes ≡ line numbers.now }
+    ensures short { length result.bytes ≤ 12 * length numbers.now }
+{
+    let mut text = ArrayString::new();
+    let (last, others) = numbers.split_last().unwrap();
+    for x in others {
+        push_number(&mut text, i64::from(*x), " ");
+    }
+    push_number(&mut text, i64::from(*last), "\n");
+    text
 }
 
 // The x, y or z (j is 0, 1 or 2) of record n.
-fn put_entry(out: &mut [u8], at: usize, list: &[u8], n: usize, j: usize, behind: u8) -> usize
+fn entry(list: &[u8], n: usize, j: usize) -> i32
     requires n_bound { (n < 1000000000) × (j < 3) }
     requires n_in_bounds { 12 * n + 12 ≤ length list.now }
-    requires at_in_bounds { at + 12 ≤ length out.old }
-    ensures { PutAt at 12 (followed (entry_at list.now n j) behind) out.old result out.new }
+    ensures { result ≡ entry_at list.now n j }
 {
-    put_number(out, at, signed_of(word_at(list, 12 * n + 4 * j)), behind)
+    i32_of(word_at(list, 12 * n + 4 * j))
 }
