@@ -1,6 +1,6 @@
 -- The whole text: of input that is too long, of a refused map, and of a list. Assumes nothing.
 use Rattle.std.specs.Prelude.{Result, Ok, Err}
-use mathlib.Core.Path.{◌≡◌, refl, sym, ap, ◌∙◌}
+use mathlib.Core.Path.{◌≡◌, sym, ap, ◌∙◌}
 use mathlib.Core.List.{List, [], ◌∷◌, ◌++◌}
 use mathlib.Core.Bool.{false, cond}
 use Prim.Native.Nat.{ℕ, ◌+◌, ◌-◌, ◌*◌, ◌≤◌, ◌<◌}
@@ -33,10 +33,9 @@ use Rattle.cutter.proofs.Counts.{count_most}
 use Rattle.cutter.proofs.Accepted.{always-room, map-asked, trailer-fits, sizes-of, held_of}
 use Rattle.cutter.proofs.Entries.{list_held}
 use Rattle.plate.specs.List.{ListCall}
-use Rattle.decimal.specs.Put.{PutAt}
-use Rattle.decimal.proofs.Putting.{put-behind, put-within}
-use Rattle.printing.specs.Line.{newline, followed, line}
-use Rattle.printing.proofs.Lines.{line-last}
+use Rattle.printing.specs.Put.{PutAt}
+use Rattle.printing.specs.Line.{line}
+use Rattle.printing.proofs.Puts.{put-behind, put-within}
 use Rattle.text.specs.Text.{map_most, list_most, text_most, sizes_line, record_line, list_text, refused_text, text_refusal, platelist_text}
 use Rattle.printing.specs.Entries.{entry_line}
 use Rattle.text.specs.Call.{TextCall}
@@ -50,31 +49,14 @@ module _ (w d : ℕ) (s : Sizes w d) where
   pub count_small : count_of w d < 1000000000
   count_small = omega (arith, count_most w d s)
 
-  module _ (b l : List ℕ) (end : ℕ) (l₁ : List ℕ) (h : text_most ≤ length l) (p : PutAt 0 48 b l end l₁) where
+  module _ (b l : List ℕ) (end : ℕ) (l₁ : List ℕ) (h : text_most ≤ length l) (few : length b ≤ 48) (p : PutAt 0 (length b) b l end l₁) where
     pub records-room : end + 60 * count_of w d ≤ length l₁
     records-room = omega (arith, count_most w d s, p.most, p.same)
 
-    pub list_put : (a : List ℕ) (r : ℕ) (l₂ : List ℕ) → PutAt end (60 * count_of w d) a l₁ r l₂ → PutAt 0 text_most (b ++ a) l r l₂
-    list_put a r l₂ q =
-        put-within 0 (48 + 60 * count_of w d) text_most (b ++ a) l r l₂ (omega (arith, count_most w d s))
-        (put-behind 0 48 (60 * count_of w d) end r b a l l₁ l₂ (omega (arith, count_most w d s)) p q)
-
--- ---- a refusal
-
--- bytes put, with the place behind them
-run-put : (at : ℕ) (b l l₁ : List ℕ) → l₁ ≡ splice at b l → length l₁ ≡ length l → PutAt at (length b) b l (at + length b) l₁
-run-put at b l l₁ e s = record { is = e; behind = refl; most = omega arith; same = s }
-
-pub refused-put : (number : ℕ) (l l₁ l₂ : List ℕ) (end : ℕ) (l₃ : List ℕ) → 20 ≤ length l
-    → l₁ ≡ splice 0 (114 ∷ 101 ∷ 102 ∷ 117 ∷ []) l → length l₁ ≡ length l → l₂ ≡ splice 4 (115 ∷ 101 ∷ 100 ∷ 32 ∷ []) l₁
-    → length l₂ ≡ length l₁ → PutAt 8 12 (followed (pos number) newline) l₂ end l₃ → PutAt 0 20 (refused_text number) l end l₃
-unfolding refused_text
-refused-put number l l₁ l₂ end l₃ h e s e₂ s₂ p =
-    put-behind 0 8 12 8 end (114 ∷ 101 ∷ 102 ∷ 117 ∷ 115 ∷ 101 ∷ 100 ∷ 32 ∷ []) (line (pos number ∷ [])) l l₂ l₃ h
-    (put-behind 0 4 4 4 8 (114 ∷ 101 ∷ 102 ∷ 117 ∷ []) (115 ∷ 101 ∷ 100 ∷ 32 ∷ []) l l₁ l₂ (omega arith)
-    (run-put 0 (114 ∷ 101 ∷ 102 ∷ 117 ∷ []) l l₁ e s)
-    (run-put 4 (115 ∷ 101 ∷ 100 ∷ 32 ∷ []) l₁ l₂ e₂ s₂))
-    (line-last 8 (pos number) l₂ end l₃ p)
+    pub list_put : (c a : List ℕ) (r : ℕ) (l₂ : List ℕ) → b ≡ c → PutAt end (60 * count_of w d) a l₁ r l₂ → PutAt 0 text_most (c ++ a) l r l₂
+    list_put c a r l₂ e q =
+        rw e at (put-within 0 (length b + 60 * count_of w d) text_most (b ++ a) l r l₂ (omega (arith, count_most w d s))
+        (put-behind 0 (length b) (60 * count_of w d) end r b a l l₁ l₂ (omega (arith, count_most w d s)) p q))
 
 -- ---- what is printed
 
@@ -108,10 +90,11 @@ module _ (m list out : List ℕ) (room : text_most ≤ length out) where
   refused-text number e n = rw (e, ne_eqb number 0 n)
 
   -- more bytes than the longest map has
-  pub too_long : (r : ℕ) (out₁ : List ℕ) → map_most < length m → PutAt 0 20 (refused_text 9) out r out₁ → TextCall m list out r list out₁
+  pub too_long : (b : List ℕ) (r : ℕ) (out₁ : List ℕ) → map_most < length m → b ≡ refused_text 9 → length b ≤ 20
+      → PutAt 0 (length b) b out r out₁ → TextCall m list out r list out₁
   unfolding text_refusal
-  too_long r out₁ h p =
-      text-call (refused_text 9) 20 r list out₁ (omega arith) (nine m h) p (rw (lt-ltb map_most (length m) h))
+  too_long b r out₁ h e few p =
+      text-call b (length b) r list out₁ (omega arith) (nine m h ∙ sym e) p (rw (lt-ltb map_most (length m) h))
 
   module _ (few : length m ≤ map_most) (held : list_most ≡ length list) (reply : Result ℕ Refusal) (list₁ : List ℕ) (c : ListCall Lifted 0 m list reply list₁) where
     short : ltb map_most (length m) ≡ false
@@ -125,12 +108,12 @@ module _ (m list out : List ℕ) (room : text_most ≤ length out) where
     made-is = rw short c.leaves
 
     -- a refused map
-    pub refused-map : (e : Refusal) (n : ℕ) → reply ≡ Err e → n ≡ number_of e → (r : ℕ) (out₁ : List ℕ) → PutAt 0 20 (refused_text n) out r out₁
-        → TextCall m list out r list₁ out₁
-    refused-map e n f g r out₁ p =
+    pub refused-map : (e : Refusal) → reply ≡ Err e → (b : List ℕ) (r : ℕ) (out₁ : List ℕ) → b ≡ refused_text (number_of e) → length b ≤ 20
+        → PutAt 0 (length b) b out r out₁ → TextCall m list out r list₁ out₁
+    refused-map e f b r out₁ h small p =
         let some : 0 < number_of e = number-positive e in
-        text-call (refused_text n) 20 r list₁ out₁ (omega arith)
-        (refused-text n (sym refusal_is ∙ ap refusal_of f ∙ sym g) (λ z. omega (arith, g, z, some))) p made-is
+        text-call b (length b) r list₁ out₁ (omega arith)
+        (refused-text (number_of e) (sym refusal_is ∙ ap refusal_of f) (λ z. omega (arith, z, some)) ∙ sym h) p made-is
 
     -- a list
     module _ (reported : ℕ) (ok : reply ≡ Ok reported) where
