@@ -6,17 +6,19 @@ use mathlib.Core.List.{List}
 use Prim.Native.Nat.{ℕ, ◌≤◌}
 use native.Mathlib.Omega.{arith}
 use borrow.Author.Tests.{ne_eqb}
+use lib.Dec.{leb→le}
 use Rattle.kinds.specs.declared.Refusal.{Refusal}
 use Rattle.kinds.specs.Rounding.{mode_of}
 use Rattle.kinds.specs.Refusal.{number_of, refusal_of, then}
-use Rattle.kinds.proofs.Questions.{number-back}
+use Rattle.kinds.specs.Rounding.{is_rounding}
+use Rattle.kinds.proofs.Questions.{yes, then-none, number-back}
 use Rattle.kinds.proofs.Refusals.{number-positive}
 use Rattle.trailer.specs.Kinds.{is_rounded}
 use Rattle.trailer.specs.Bytes.{list_kind}
 use Rattle.reader.specs.declared.Record.{Record}
-use Rattle.reader.specs.Reader.{list_trailer, record_refusal}
+use Rattle.reader.specs.Reader.{list_trailer, reader_refusal, record_refusal}
 use Rattle.reader.specs.Record.{record_asked}
-use Rattle.reader.proofs.Questions.{record-held, record-number, record-accepted}
+use Rattle.reader.proofs.Questions.{record-number, record-accepted}
 use Rattle.plate.specs.declared.ListRecord.{ListRecord}
 use Rattle.plate.specs.Record.{list_rounding, list_record, record_call, rounding_stated, record_read, no_record, told_of, record_told}
 
@@ -35,11 +37,16 @@ stated : (r : Bool) (n : ℕ) → n ≤ 3 → list_rounding (then_some r (mode_o
 stated true n h = rw (number-back n h) refl
 stated false n h = refl
 
+rounding-known : (b : List ℕ) (index : ℕ) → record_refusal b index ≡ 0 → (list_trailer b).rounding ≤ 3
+unfolding record_refusal reader_refusal
+rounding-known b index e =
+    leb→le (list_trailer b).rounding 3 (yes (is_rounding (list_trailer b).rounding) 1 0 (yes _ 12 _ (then-none _ _ (then-none _ _ e).0).1).1).0
+
 pub record-numbers : (b : List ℕ) (index : ℕ) (r : Result ListRecord Refusal) → r ≡ record_call b index
     → (refusal_of r ≡ record_refusal b index) × (told_of r ≡ record_told b index)
 record-numbers b index r e =
     rw e (
       same-number (record_asked b index) ∙ record-number b index,
       told-by (record_asked b index) (record_refusal b index) (record_read b index) (record-number b index)
-          (λ z. rw (record-accepted b index z, stated (is_rounded (list_kind b)) (list_trailer b).rounding (record-held b index z).0.rounding) refl),
+          (λ z. rw (record-accepted b index z, stated (is_rounded (list_kind b)) (list_trailer b).rounding (rounding-known b index z)) refl),
     )
