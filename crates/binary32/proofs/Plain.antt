@@ -18,7 +18,6 @@ use Rattle.ieee.specs.Answer.{is_special, to_finite, answer_of}
 use Rattle.pattern.specs.Parts.{PartsOf}
 use Rattle.pattern.specs.Operand.{Ordinary}
 use Rattle.pattern.specs.Answer.{Answered}
-use Rattle.pattern.specs.declared.Width.TheVariants.{Binary32}
 use Rattle.pattern.specs.declared.parts.Parts.{Parts}
 use Rattle.pattern.specs.declared.answer.Rounded.{Rounded}
 use Rattle.rounding.proofs.Answers.{answer-ordinary}
@@ -90,7 +89,7 @@ module _ (b : ℕ) (x : Parts) (p : PartsOf binary32 b x) where
 
     -- so that the short way has the answer
     pub plain-answered : (mode : Mode) (r : Rounded) → Answered binary32 (to_finite binary32 op mode x.sign t) r → Answered binary32 (answer_of binary32 op mode b) r
-    plain-answered mode r a = answer-ordinary Binary32 op mode b x false r p (sym plain.not-special) refl a
+    plain-answered mode r a = answer-ordinary binary32 op mode b x false r p (sym plain.not-special) refl a
 
 -- the test by the case of the operation
 module _ (op : Op) (b e : ℕ) where

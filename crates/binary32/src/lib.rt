@@ -9,8 +9,8 @@ ghost use Rattle.pattern.specs.Answer.{Answered};
 ghost use Rattle.binary32.specs.Normal.{is_plain};
 
 use kinds::{Mode, Op};
-use pattern::Width;
 use pattern::answer::Rounded;
+use pattern::format::Binary32;
 use pattern::parts::fields;
 use results::{finite, normal};
 use special::{is_special, special};
@@ -36,7 +36,7 @@ pub fn rounded(op: Op, mode: Mode, bits: u32) -> Rounded
 fn reciprocal(mode: Mode, bits: u32) -> Rounded
     ensures { Answered binary32 (answer_of binary32 Reciprocal mode bits) result }
 {
-    let x = fields(Width::Binary32, bits as u64);
+    let x = fields::<Binary32>(bits as u64);
     if !is_plain(Op::Reciprocal, bits, x.exponent) {
         return apart(Op::Reciprocal, mode, bits);
     }
@@ -46,7 +46,7 @@ fn reciprocal(mode: Mode, bits: u32) -> Rounded
 fn root(mode: Mode, bits: u32) -> Rounded
     ensures { Answered binary32 (answer_of binary32 Root mode bits) result }
 {
-    let x = fields(Width::Binary32, bits as u64);
+    let x = fields::<Binary32>(bits as u64);
     if !is_plain(Op::Root, bits, x.exponent) {
         return apart(Op::Root, mode, bits);
     }
@@ -56,7 +56,7 @@ fn root(mode: Mode, bits: u32) -> Rounded
 fn inverse_root(mode: Mode, bits: u32) -> Rounded
     ensures { Answered binary32 (answer_of binary32 InverseRoot mode bits) result }
 {
-    let x = fields(Width::Binary32, bits as u64);
+    let x = fields::<Binary32>(bits as u64);
     if !is_plain(Op::InverseRoot, bits, x.exponent) {
         return apart(Op::InverseRoot, mode, bits);
     }
@@ -80,9 +80,9 @@ fn is_plain(op: Op, bits: u32, exponent: u64) -> bool
 fn apart(op: Op, mode: Mode, bits: u32) -> Rounded
     ensures { Answered binary32 (answer_of binary32 op mode bits) result }
 {
-    let x = fields(Width::Binary32, bits as u64);
-    if is_special(Width::Binary32, op, x) {
-        return special(Width::Binary32, op, x);
+    let x = fields::<Binary32>(bits as u64);
+    if is_special::<Binary32>(op, x) {
+        return special::<Binary32>(op, x);
     }
     finite(op, mode, x)
 }

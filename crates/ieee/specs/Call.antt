@@ -1,5 +1,5 @@
 -- What a rounded call answers and the new status, over the format; and the binary32 call with its questions. Assumes nothing.
-use Rattle.std.specs.Prelude.{ℕ, ◌%◌, cond, eqb, Result, Ok, Err}
+use Rattle.std.specs.Prelude.{ℕ, ◌%◌, cond, eqb, Result, Ok}
 use Rattle.std.specs.Int.Bits.{bit_or}
 use Rattle.kinds.specs.declared.Op.{Op}
 use Rattle.kinds.specs.declared.Mode.{Mode}
@@ -37,13 +37,3 @@ binary32_asked operation rounding b =
     then (operation_asked operation) (λ op.
     then (rounding_asked rounding) (λ mode.
     Ok (answer_of binary32 op mode b)))
-
--- what such a reply says in numbers: the answer's bits, 0 after a refusal,
-abbrev pub bits_told : Result Answer Refusal → ℕ
-bits_told (Ok a) = a.bits
-bits_told (Err e) = 0
-
--- and the new status, the one given after a refusal
-abbrev pub status_told : Result Answer Refusal → ℕ → ℕ
-status_told (Ok a) status = bit_or (status % 32) (a.flags % 32)
-status_told (Err e) status = status

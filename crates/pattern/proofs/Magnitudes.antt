@@ -1,43 +1,21 @@
 -- A magnitude as a significand and a power of two. Assumes nothing.
-use mathlib.Core.Path.{◌≡◌, sym, ap, ◌∙◌}
+use mathlib.Core.Path.{◌≡◌, refl, sym, ap, ◌∙◌}
 use Prim.Native.Nat.{ℕ, zero, suc, ◌+◌, ◌*◌, ◌-◌, ◌/◌, ◌%◌, ◌^◌, ◌≤◌, ◌<◌}
 use native.Mathlib.Nat.{pow-suc, mod-eq_of_lt, mod-lt, div-le_self, mul-le-mul_right, mul-lt-mul_of_pos_right, div-lt_iff_lt-mul, lt-mul-div-succ}
 use native.Mathlib.Omega.{arith}
 use lib.Count.{count_leading_zeros}
-use lib.Dec.{lit<}
 use lib.Pow.{pow_pos}
 use mir.Syntax.{w64}
 use mir.Val.{Fits}
 use Rattle.numbers.proofs.Powers.{power_below, power-sum}
-use Rattle.significand.specs.Width.{Significand}
 use Rattle.leading.proofs.Significands.{exponent_of, zeros-most, top-is, top-next}
-use Rattle.ieee.specs.Format.{scaled, magnitude_of}
+use Rattle.ieee.specs.Format.{Format, least_normal, scaled, magnitude_of}
 use Rattle.ieee.proofs.Neighbours.{magnitude-small}
-use Rattle.pattern.specs.Width.{format_of, k_of, t_of, ConstantsOf}
+use Rattle.pattern.specs.Format.{FormatLaws}
 use Rattle.pattern.specs.Parts.{FieldsOf}
+use Rattle.pattern.proofs.Numbers.{above-infinity, above-normal, sign-fits, some-exponents}
 use Rattle.pattern.specs.Operand.{Ordinary, Scaling}
 use Rattle.pattern.specs.declared.parts.Parts.{Parts}
-use Rattle.pattern.specs.declared.Width.{Width}
-use Rattle.pattern.specs.declared.Width.TheVariants.{Binary32, Binary64}
-use Rattle.pattern.specs.declared.Constants.{Constants}
-
--- a significand has one bit more than a fraction
-significand-is : (w : Width) (y : ℕ) → 2 ^ (format_of w).fraction_bits ≤ y → y < 2 * 2 ^ (format_of w).fraction_bits → Significand (k_of w) (t_of w) y
-significand-is Binary32 y h k = record { least = h; below = k }
-significand-is Binary64 y h k = record { least = h; below = k }
-
-pub significand-least : (w : Width) (y : ℕ) → Significand (k_of w) (t_of w) y → 2 ^ (format_of w).fraction_bits ≤ y
-significand-least Binary32 y h = h.least
-significand-least Binary64 y h = h.least
-
-pub significand-below : (w : Width) (y : ℕ) → Significand (k_of w) (t_of w) y → y < 2 ^ suc (format_of w).fraction_bits
-significand-below Binary32 y h = h.below
-significand-below Binary64 y h = h.below
-
--- there are exponents enough
-exponents : (w : Width) → 2 < 2 ^ (format_of w).exponent_bits
-exponents Binary32 = lit< tt
-exponents Binary64 = lit< tt
 
 -- a number t below 2^m whose highest bit is 2^j, with this bit brought to the place of 2^m
 module _ (m t j : ℕ) (low : 2 ^ j ≤ t) (high : t < 2 * 2 ^ j) (small : t < 2 ^ m) where
@@ -65,27 +43,32 @@ normal-is m (suc e) x p = omega (arith, ap (λ (n : ℕ). (2 ^ m + x) * n) (powe
 div-zero-lt : (n d : ℕ) → 0 < d → n / d ≡ 0 → n < d
 div-zero-lt n d some e = omega (arith, lt-mul-div-succ n some, ap (λ (q : ℕ). d * q) e)
 
-module _ (w : Width) (x : Parts) (c : Constants) (k : ConstantsOf (format_of w) c) (o : Ordinary (format_of w) x.unsigned) (d : FieldsOf (format_of w) x) where
+module _ (f : Format) (m p : ℕ) (laws : FormatLaws f m p) (x : Parts) (o : Ordinary f x.unsigned) (d : FieldsOf f x) where
   abbrev t : ℕ
   t = x.unsigned
 
+  abbrev n : ℕ
+  n = f.fraction_bits
+
   -- what is worked from the operand fits a word
   whole : t < 2 ^ 64
-  whole = omega (arith, k, o.finite)
+  whole = omega (arith, o.finite, above-infinity f m p laws, sign-fits f m p laws)
 
-  fraction-small : x.fraction < 2 ^ (format_of w).fraction_bits
-  fraction-small = rw d.fraction (mod-lt t (pow_pos (format_of w).fraction_bits))
+  fraction-small : x.fraction < 2 ^ n
+  fraction-small = rw d.fraction (mod-lt t (pow_pos n))
 
-  pub significand-fits : Fits w64 (c.normal + x.fraction)
-  significand-fits = omega (arith, fraction-small, k)
+  module _ (normal : ℕ) (en : normal ≡ least_normal f) where
+    pub significand-fits : Fits w64 (normal + x.fraction)
+    significand-fits = omega (arith, en, fraction-small, above-normal f m p laws, above-infinity f m p laws, sign-fits f m p laws)
 
-  pub exponent-fits : Fits w64 (x.exponent + c.fraction)
-  exponent-fits = omega (arith, d.exponent, div-le_self t (2 ^ (format_of w).fraction_bits), k, o.finite)
+  module _ (fraction : ℕ) (em : fraction ≡ m) where
+    pub exponent-fits : Fits w64 (x.exponent + fraction)
+    exponent-fits = omega (arith, em, laws.fraction-is, laws.word, d.exponent, div-le_self t (2 ^ n), o.finite, above-infinity f m p laws, sign-fits f m p laws)
 
   -- a subnormal operand is its fraction
   module _ (subnormal : x.exponent ≡ 0) where
-    small : t < 2 ^ (format_of w).fraction_bits
-    small = div-zero-lt t (2 ^ (format_of w).fraction_bits) (pow_pos (format_of w).fraction_bits) (sym d.exponent ∙ subnormal)
+    small : t < 2 ^ n
+    small = div-zero-lt t (2 ^ n) (pow_pos n) (sym d.exponent ∙ subnormal)
 
     alone : x.fraction ≡ t
     alone = d.fraction ∙ mod-eq_of_lt small
@@ -102,36 +85,41 @@ module _ (w : Width) (x : Parts) (c : Constants) (k : ConstantsOf (format_of w) 
     high : t < 2 * 2 ^ exponent_of t
     high = top-next t o.some whole
 
-    pub exponent-few : exponent_of x.fraction ≤ c.fraction
-    exponent-few = rw alone (omega (arith, k.fraction-is, below (format_of w).fraction_bits t (exponent_of t) low high small))
+    module _ (fraction : ℕ) (em : fraction ≡ m) where
+      fraction-is : fraction ≡ n
+      fraction-is = em ∙ laws.fraction-is
 
-    pub subnormal-scaled : Scaling w (magnitude_of (format_of w) x.unsigned)
-        (record { significand = x.fraction * 2 ^ (c.fraction - exponent_of x.fraction) % 2 ^ 64; exponent = exponent_of x.fraction })
-    subnormal-scaled =
-        let m = (format_of w).fraction_bits in
-        let j = exponent_of t in
-        let most = lifted-most m t j low high small in
-        let fits : t * 2 ^ (m - j) % 2 ^ 64 ≡ t * 2 ^ (m - j) = mod-eq_of_lt (omega (arith, most, k)) in
-        rw (alone, k.fraction-is, fits, magnitude-small (format_of w) t (omega (arith, small, pow-suc 2 m)))
+      pub exponent-few : exponent_of x.fraction ≤ fraction
+      exponent-few = rw alone (omega (arith, fraction-is, below n t (exponent_of t) low high small))
+
+      pub subnormal-scaled : Scaling f (magnitude_of f x.unsigned)
+          (record { significand = x.fraction * 2 ^ (fraction - exponent_of x.fraction) % 2 ^ 64; exponent = exponent_of x.fraction })
+      subnormal-scaled =
+          let j = exponent_of t in
+          let most = lifted-most n t j low high small in
+          let fits : t * 2 ^ (n - j) % 2 ^ 64 ≡ t * 2 ^ (n - j) = mod-eq_of_lt (omega (arith, most, above-normal f m p laws, above-infinity f m p laws, sign-fits f m p laws)) in
+          rw (alone, fraction-is, fits, magnitude-small f t (omega (arith, small, pow-suc 2 n)))
+          (record {
+            is = lifted-is n t j low high small;
+            least = lifted-least n t j low high small;
+            below = omega (arith, most, pow-suc 2 n);
+            small = omega (arith, below n t j low high small, some-exponents f m p laws);
+          })
+
+  module _ (normal fraction : ℕ) (en : normal ≡ least_normal f) (em : fraction ≡ m) where
+    pub normal-scaled : 0 < x.exponent
+        → Scaling f (magnitude_of f x.unsigned) (record { significand = normal + x.fraction; exponent = x.exponent + fraction - 1 })
+    unfolding magnitude_of
+    normal-scaled some =
+        let e : 1 ≤ t / 2 ^ n = omega (arith, d.exponent, some) in
+        let r : t % 2 ^ n < 2 ^ n = mod-lt t (pow_pos n) in
+        rw (d.exponent, d.fraction, en, em ∙ laws.fraction-is)
         (record {
-          is = lifted-is m t j low high small;
-          significand = significand-is w (t * 2 ^ (m - j)) (lifted-least m t j low high small) most;
-          small = omega (arith, below m t j low high small, exponents w);
+          is = normal-is n (t / 2 ^ n) (t % 2 ^ n) e;
+          least = omega arith;
+          below = omega (arith, pow-suc 2 n);
+          small = omega (arith, (div-lt_iff_lt-mul (pow_pos n)).1 o.finite);
         })
 
-  pub normal-scaled : 0 < x.exponent
-      → Scaling w (magnitude_of (format_of w) x.unsigned) (record { significand = c.normal + x.fraction; exponent = x.exponent + c.fraction - 1 })
-  unfolding magnitude_of
-  normal-scaled normal =
-      let m = (format_of w).fraction_bits in
-      let e : 1 ≤ t / 2 ^ m = omega (arith, d.exponent, normal) in
-      let r : t % 2 ^ m < 2 ^ m = mod-lt t (pow_pos m) in
-      rw (d.exponent, d.fraction, k.normal-is, k.fraction-is)
-      (record {
-        is = normal-is m (t / 2 ^ m) (t % 2 ^ m) e;
-        significand = significand-is w (2 ^ m + t % 2 ^ m) (omega arith) (omega arith);
-        small = omega (arith, (div-lt_iff_lt-mul (pow_pos m)).1 o.finite);
-      })
-
-  pub normal-exponent : x.exponent + c.fraction - 1 ≡ x.exponent + (format_of w).fraction_bits - 1
-  normal-exponent = rw k.fraction-is
+    pub normal-exponent : x.exponent + fraction - 1 ≡ x.exponent + f.fraction_bits - 1
+    normal-exponent = rw (em ∙ laws.fraction-is) refl

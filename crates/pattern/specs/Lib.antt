@@ -1,4 +1,4 @@
-pub mod Width
+pub mod Format
 pub mod Parts
 pub mod Operand
 pub mod Answer

@@ -2,9 +2,8 @@
 ghost use Rattle.std.specs.Prelude.{◌≡◌, cond, ◌*◌, ◌≤◌, ◌<◌};
 ghost use Rattle.ieee.specs.Format.{sign_bit};
 ghost use Rattle.ieee.specs.Answer.{with_sign_bit};
-ghost use Rattle.pattern.specs.Width.{format_of};
 
-use crate::Width;
+use crate::format::Format;
 
 // A pattern and the flags that its operation raises.
 #[derive(Clone, Copy)]
@@ -19,9 +18,10 @@ pub fn flag_if(on: bool, flag: u8) -> u8
     if on { flag } else { 0 }
 }
 
-pub fn with_sign(w: Width, sign: u64, t: u64) -> u64
-    requires { (sign < 2) × (t < sign_bit (format_of w)) }
-    ensures { (result ≡ with_sign_bit (format_of w) sign t) × (result < 2 * sign_bit (format_of w)) }
+#[inline(always)]
+pub fn with_sign<F: Format>(sign: u64, t: u64) -> u64
+    requires { (sign < 2) × (t < sign_bit F.format) }
+    ensures { (result ≡ with_sign_bit F.format sign t) × (result < 2 * sign_bit F.format) }
 {
-    (sign << w.constants().place) | t
+    (sign << F::PLACE) | t
 }

@@ -1,11 +1,10 @@
 // A finite operand as a significand and a power of two.
 ghost use Rattle.std.specs.Prelude.{◌≡◌, ◌+◌, ◌-◌, ◌<◌};
 ghost use Rattle.ieee.specs.Format.{magnitude_of};
-ghost use Rattle.pattern.specs.Width.{format_of};
 ghost use Rattle.pattern.specs.Parts.{FieldsOf};
 ghost use Rattle.pattern.specs.Operand.{Ordinary, Scaling};
 
-use crate::Width;
+use crate::format::Format;
 use crate::parts::Parts;
 
 // A magnitude, counted in units of 2^-149 or 2^-1074: times 2^23 or 2^52 it is significand × 2^exponent, and the significand has 24 or
@@ -18,30 +17,29 @@ pub struct Scaled {
 
 // A subnormal operand is its own magnitude, whose highest bit is brought to the place of the leading one; a normal one has that bit, which
 // the pattern leaves out.
-pub fn scale(w: Width, x: Parts) -> Scaled
-    requires { Ordinary (format_of w) x.unsigned × FieldsOf (format_of w) x }
-    ensures { Scaling w (magnitude_of (format_of w) x.unsigned) result }
+pub fn scale<F: Format>(x: Parts) -> Scaled
+    requires { Ordinary F.format x.unsigned × FieldsOf F.format x }
+    ensures { Scaling F.format (magnitude_of F.format x.unsigned) result }
 {
-    let f = w.constants();
     if x.exponent == 0 {
-        let exponent = 63 - u64::leading_zeros(x.fraction) as u64;
+        let exponent = 63 - x.fraction.leading_zeros() as u64;
         return Scaled {
-            significand: x.fraction << (f.fraction - exponent),
+            significand: x.fraction << (F::FRACTION - exponent),
             exponent,
         };
     }
-    scale_normal(w, x)
+    scale_normal::<F>(x)
 }
 
 // The same, of a normal operand.
-pub fn scale_normal(w: Width, x: Parts) -> Scaled
-    requires ordinary { Ordinary (format_of w) x.unsigned × FieldsOf (format_of w) x }
+#[inline(always)]
+pub fn scale_normal<F: Format>(x: Parts) -> Scaled
+    requires ordinary { Ordinary F.format x.unsigned × FieldsOf F.format x }
     requires exponent_nonzero { 0 < x.exponent }
-    ensures { Scaling w (magnitude_of (format_of w) x.unsigned) result × (result.exponent ≡ x.exponent + (format_of w).fraction_bits - 1) }
+    ensures { Scaling F.format (magnitude_of F.format x.unsigned) result × (result.exponent ≡ x.exponent + F.format.fraction_bits - 1) }
 {
-    let f = w.constants();
     Scaled {
-        significand: f.normal + x.fraction,
-        exponent: x.exponent + f.fraction - 1,
+        significand: F::least_normal() + x.fraction,
+        exponent: x.exponent + F::FRACTION - 1,
     }
 }

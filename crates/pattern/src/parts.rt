@@ -1,10 +1,9 @@
 // A pattern taken apart, by shifts and masks.
 ghost use Rattle.std.specs.Prelude.{◌*◌, ◌<◌};
 ghost use Rattle.ieee.specs.Format.{sign_bit};
-ghost use Rattle.pattern.specs.Width.{format_of};
 ghost use Rattle.pattern.specs.Parts.{PartsOf};
 
-use crate::Width;
+use crate::format::Format;
 
 // The sign, 0 or 1, the exponent and the fraction; and the pattern without its sign.
 #[derive(Clone, Copy)]
@@ -15,15 +14,16 @@ pub struct Parts {
     pub unsigned: u64,
 }
 
-pub fn fields(w: Width, bits: u64) -> Parts
-    requires { bits < 2 * sign_bit (format_of w) }
-    ensures { PartsOf (format_of w) bits result }
+#[inline(always)]
+pub fn fields<F: Format>(bits: u64) -> Parts
+    requires { bits < 2 * sign_bit F.format }
+    ensures { PartsOf F.format bits result }
 {
-    let f = w.constants();
+    let unsigned = bits & (F::sign_bit() - 1);
     Parts {
-        sign: bits >> f.place,
-        exponent: (bits >> f.fraction) & f.exponents,
-        fraction: bits & (f.normal - 1),
-        unsigned: bits & (f.sign - 1),
+        sign: bits >> F::PLACE,
+        exponent: unsigned >> F::FRACTION,
+        fraction: bits & (F::least_normal() - 1),
+        unsigned,
     }
 }

@@ -1,4 +1,3 @@
 pub mod Numbers
-pub mod Adapted
 pub mod Listed
 pub mod Records

@@ -3,7 +3,7 @@ use Rattle.std.specs.Prelude.{ℕ, List, Result}
 use Rattle.kinds.specs.declared.Refusal.{Refusal}
 use Rattle.kinds.specs.Refusal.{refusal_of, answer_of, then, operation_asked, rounding_asked}
 use Rattle.ieee.specs.Answer.{Answer}
-use Rattle.plate.specs.Asked.{binary64_asked}
+use Rattle.binary64.specs.Call.{rounded64_asked}
 use Rattle.plate.specs.declared.Status.{Status}
 use Rattle.plate.specs.declared.Reply.{Reply}
 use Rattle.plate.specs.Rounded.{replied}
@@ -14,7 +14,7 @@ abbrev pub binary64_answer : ℕ → ℕ → ℕ → List ℕ → Result Answer 
 binary64_answer operation rounding b tables =
     then (operation_asked operation) (λ op.
     then (rounding_asked rounding) (λ mode.
-    binary64_asked op mode b tables))
+    rounded64_asked op mode b tables))
 
 abbrev pub binary64_call : ℕ → ℕ → ℕ → Status → List ℕ → Reply ℕ
 binary64_call operation rounding b status tables = replied status (binary64_answer operation rounding b tables)

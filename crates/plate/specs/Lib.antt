@@ -1,6 +1,4 @@
 pub mod Status
-pub mod Numbered
-pub mod Asked
 pub mod Raw
 pub mod Raw64
 pub mod Rounded

@@ -10,7 +10,7 @@ ghost use Rattle.kinds.specs.declared.Rule.TheVariants.{Touching, Lifted};
 ghost use Rattle.kinds.specs.Rounding.{number_of};
 ghost use Rattle.kinds.specs.Refusal.{refusal_of, answer_of, operation_asked, rounding_asked};
 ghost use Rattle.significand.specs.Call.{raw_refusal, raw_answer, raw64_refusal, raw64_answer, fill_refusal, filling_asked, slice_after};
-ghost use Rattle.ieee.specs.Format.{binary32};
+ghost use Rattle.ieee.specs.Format.{binary32, binary64};
 ghost use Rattle.ieee.specs.Call.{binary32_refusal, binary32_bits, binary32_status, binary32_asked};
 ghost use Rattle.pattern.specs.Answer.{Replied};
 ghost use Rattle.binary64.specs.Call.{binary64_refusal, binary64_bits, binary64_status};
@@ -19,10 +19,9 @@ ghost use Rattle.plate.specs.Status.{raised, cleared};
 ghost use Rattle.plate.specs.Raw.{raw_call};
 ghost use Rattle.plate.specs.Raw64.{raw64_call};
 ghost use Rattle.plate.specs.Binary32.{binary32_call};
-ghost use Rattle.plate.specs.Binary64.{binary64_call};
+ghost use Rattle.plate.specs.Binary64.{binary64_answer, binary64_call};
 ghost use Rattle.plate.specs.List.{ListCall};
 ghost use Rattle.plate.specs.Record.{record_call, record_told, told_of};
-ghost use Rattle.plate.specs.Numbered.{numbered};
 
 pub use kinds::Refusal;
 use kinds::{Flags, Mode, Op, Rule, joined};
@@ -231,11 +230,28 @@ pub fn binary64(
     ensures numbers { (refusal_of result.answer ≡ binary64_refusal operation.0 rounding.0 bits tables.now) × (answer_of result.answer ≡ binary64_bits operation.0 rounding.0 bits tables.now) }
     ensures status { result.status.flags ≡ binary64_status operation.0 rounding.0 bits status.flags tables.now }
 {
-    let r = binary64::call(operation.0, rounding.0, bits, status.flags, tables);
-    Reply {
-        status: Status { flags: r.status },
-        answer: numbered(r.refusal, r.bits),
+    match binary64_rounded(operation, rounding, bits, tables) {
+        Ok(r) => Reply::answered(status, r.flags, r.bits),
+        Err(refusal) => Reply::refused(status, refusal),
     }
+}
+
+// Questions 1, 2, 15 and 16, and the answer with the flags that it raises.
+#[inline(always)]
+fn binary64_rounded(
+    operation: Operation,
+    rounding: Rounding,
+    bits: u64,
+    tables: &[u64],
+) -> Result<Rounded, Refusal>
+    ensures { Replied binary64 (binary64_answer operation.0 rounding.0 bits tables.now) result }
+{
+    binary64::rounded(
+        Op::try_from(operation)?,
+        Mode::try_from(rounding)?,
+        bits,
+        tables,
+    )
 }
 
 // The list call: the cutter's centres over a map, put at the front of the lent buffer; the bytes behind the list are kept. It gives the
@@ -290,28 +306,4 @@ pub fn record(list: &[u8], index: usize) -> Result<ListRecord, Refusal>
         y: r.y,
         z: r.z,
     })
-}
-
-fn numbered<T: Copy>(number: u8, answer: T) -> Result<T, Refusal>
-    ensures { result ≡ numbered number answer }
-{
-    match number {
-        0 => Ok(answer),
-        1 => Err(Refusal::Operation),
-        2 => Err(Refusal::Rounding),
-        3 => Err(Refusal::Significand),
-        4 => Err(Refusal::Parity),
-        5 => Err(Refusal::Short),
-        6 => Err(Refusal::MapLetters),
-        7 => Err(Refusal::Sides),
-        8 => Err(Refusal::Lengths),
-        9 => Err(Refusal::MapDistance),
-        10 => Err(Refusal::Height),
-        11 => Err(Refusal::Room),
-        12 => Err(Refusal::ListLetters),
-        13 => Err(Refusal::ListDistance),
-        14 => Err(Refusal::Index),
-        15 => Err(Refusal::Tables),
-        _ => Err(Refusal::Entry),
-    }
 }

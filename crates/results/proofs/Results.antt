@@ -9,7 +9,7 @@ use Rattle.kinds.specs.declared.Op.{Op}
 use Rattle.kinds.specs.declared.Mode.{Mode}
 use Rattle.kinds.specs.Operation.{is_reciprocal}
 use Rattle.kinds.specs.Guard.{rest_of}
-use Rattle.significand.specs.Width.{k32, t32, Significand, Operand}
+use Rattle.significand.specs.Width.{k32, t32, Operand}
 use Rattle.ieee.specs.Format.{binary32, infinity, magnitude_of}
 use Rattle.ieee.specs.Floor.{target_of, Floored, scale_of}
 use Rattle.ieee.specs.Answer.{to_finite}
@@ -17,7 +17,7 @@ use Rattle.ieee.proofs.Targets.{quotient-small, quotient-large}
 use Rattle.ieee.proofs.Whole.{never-half}
 use Rattle.pattern.specs.Operand.{Scaling}
 use Rattle.pattern.specs.Answer.{Answered}
-use Rattle.pattern.specs.declared.Width.TheVariants.{Binary32}
+use Rattle.pattern.specs.Format.{laws32}
 use Rattle.pattern.specs.declared.parts.Parts.{Parts}
 use Rattle.pattern.specs.declared.operand.Scaled.{Scaled}
 use Rattle.pattern.specs.declared.answer.Rounded.{Rounded}
@@ -37,8 +37,8 @@ use Rattle.results.specs.Plain.{Plain}
 use Rattle.results.specs.declared.estimate.Estimate.{Estimate}
 
 -- what the raw unit asks
-pub operand-is : (op : Op) (y j : ℕ) (k : Scales) → Significand k32 t32 y → ScalesOf binary32 op j k → Operand k32 t32 op y k.parity
-operand-is op y j k Y s = record { significand = Y; parity = s.one_bit; even = s.even }
+pub operand-is : (op : Op) (y j : ℕ) (k : Scales) → 2 ^ 23 ≤ y → y < 2 ^ 24 → ScalesOf binary32 op j k → Operand k32 t32 op y k.parity
+operand-is op y j k least below s = record { significand = record { least = least; below = below }; parity = s.one_bit; even = s.even }
 
 module _ (op : Op) (x : Scaled) (r : Estimate) (e : EstimateOf op x r) where
   abbrev y : ℕ
@@ -67,17 +67,17 @@ module _ (op : Op) (x : Scaled) (r : Estimate) (e : EstimateOf op x r) where
           never-half = never-half 23 y r.scales.parity q e.scales.one_bit Y.least Y.below op more F;
         }
 
-    module _ (t : ℕ) (s : Scaling Binary32 (magnitude_of binary32 t) x) (n : Neighbour) (en : n ≡ neighbour_of binary32 q more k) where
+    module _ (t : ℕ) (s : Scaling binary32 (magnitude_of binary32 t) x) (n : Neighbour) (en : n ≡ neighbour_of binary32 q more k) where
       -- and gives the pattern below the exact result, which is rounded to the answer
       exact_below : BelowResult binary32 op t n
-      exact_below = result-below Binary32 t x s op r.scales e.scales q more F n en
+      exact_below = result-below binary32 23 31 laws32 t x s op r.scales e.scales q more F n en
 
       pub below-finite : n.pattern < infinity binary32
       below-finite = exact_below.finite
 
       pub exact-answered : (mode : Mode) (sign : ℕ) (a : Rounded) → Answered binary32 (rounded_from binary32 mode sign n) a
           → Answered binary32 (to_finite binary32 op mode sign t) a
-      exact-answered mode sign a h = rw (← rounded-finite Binary32 op mode sign t n exact_below) h
+      exact-answered mode sign a h = rw (← rounded-finite binary32 23 31 laws32 op mode sign t n exact_below) h
 
   -- the significand that the rounding takes of it
   module _ (o : Parts) (p : Plain op o) (j : x.exponent ≡ o.exponent + 23 - 1) where
@@ -91,7 +91,7 @@ module _ (op : Op) (x : Scaled) (r : Estimate) (e : EstimateOf op x r) where
       pub taken-finite : (k - 2) * 2 ^ 23 + t.significand < infinity binary32
       taken-finite = rw h.is (omega (arith, taken-most rest h.floor t.more, floor.finite))
 
-    module _ (s : Scaling Binary32 (magnitude_of binary32 o.unsigned) x) (mode : Mode) (n : Taken) (a : Rounded) where
+    module _ (s : Scaling binary32 (magnitude_of binary32 o.unsigned) x) (mode : Mode) (n : Taken) (a : Rounded) where
       pub taken-answered : TakenOf op y (target_of 23 op y r.scales.parity) (rest_of mode (eqb o.sign 1)) n
           → Answered binary32 (normal_answer binary32 o.sign k n.significand n.more) a
           → Answered binary32 (to_finite binary32 op mode o.sign o.unsigned) a

@@ -16,8 +16,8 @@ use estimate::estimate_of;
 use floors::floor_of;
 use kinds::{Mode, Op};
 use neighbour::lower;
-use pattern::Width;
 use pattern::answer::Rounded;
+use pattern::format::Binary32;
 use pattern::operand::scale;
 use pattern::parts::Parts;
 use rounding::round;
@@ -27,9 +27,9 @@ pub fn finite(op: Op, mode: Mode, x: Parts) -> Rounded
     requires { Ordinary binary32 x.unsigned × FieldsOf binary32 x × (x.sign < 2) }
     ensures { Answered binary32 (to_finite binary32 op mode x.sign x.unsigned) result }
 {
-    let s = scale(Width::Binary32, x);
+    let s = scale::<Binary32>(x);
     let e = estimate_of(op, s);
     let f = floor_of(op, s.significand, e.scales.parity, e.answer);
-    let n = lower(Width::Binary32, f.quotient, f.more, e.scales.scale);
-    round(Width::Binary32, mode, x.sign, n)
+    let n = lower::<Binary32>(f.quotient, f.more, e.scales.scale);
+    round::<Binary32>(mode, x.sign, n)
 }

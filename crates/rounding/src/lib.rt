@@ -5,32 +5,32 @@ pub mod normal;
 
 ghost use Rattle.std.specs.Prelude.{◌≡◌, cond, ◌≤◌, ◌<◌};
 ghost use Rattle.ieee.specs.Format.{infinity};
-ghost use Rattle.pattern.specs.Width.{format_of};
 ghost use Rattle.pattern.specs.Answer.{Answered};
 ghost use Rattle.rounding.specs.Rounded.{rounded_from};
 
 use kinds::{Flags, Mode, goes_away};
 use neighbour::Neighbour;
-use pattern::Width;
 use pattern::answer::{Rounded, flag_if, with_sign};
+use pattern::format::Format;
 
 // The neighbour that the rounding takes, with its sign, and the flags.
-pub fn round(w: Width, mode: Mode, sign: u64, n: Neighbour) -> Rounded
-    requires { (sign < 2) × (n.pattern < infinity (format_of w)) }
-    ensures { Answered (format_of w) (rounded_from (format_of w) mode sign n) result }
+#[inline(always)]
+pub fn round<F: Format>(mode: Mode, sign: u64, n: Neighbour) -> Rounded
+    requires { (sign < 2) × (n.pattern < infinity F.format) }
+    ensures { Answered F.format (rounded_from F.format mode sign n) result }
 {
-    let f = w.constants();
+    let infinity = F::infinity();
     let odd = n.pattern % 2 == 1;
     let away = goes_away(mode, sign == 1, odd, n.half, n.more);
     let t = choose(away, n.pattern + 1, n.pattern);
     let inexact = n.half | n.more;
-    let overflow = n.beyond | (t == f.infinity);
-    let underflow = (n.pattern < f.normal) & inexact;
+    let overflow = n.beyond | (t == infinity);
+    let underflow = (n.pattern < F::least_normal()) & inexact;
     let flags = flag_if(overflow, Flags::OVERFLOW)
         + flag_if(underflow, Flags::UNDERFLOW)
         + flag_if(inexact, Flags::INEXACT);
     Rounded {
-        bits: with_sign(w, sign, t),
+        bits: with_sign::<F>(sign, t),
         flags,
     }
 }

@@ -3,4 +3,4 @@ use Rattle.rounding.proofs.Assembly.{assembled}
 use Rattle.rounding.proofs.round.Goals as goal
 
 pub returns : goal.returns
-returns c = search assembled
+returns g c = search assembled

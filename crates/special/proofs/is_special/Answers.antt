@@ -3,4 +3,4 @@ use Rattle.special.proofs.Parted.{special-is}
 use Rattle.special.proofs.is_special.Goals as goal
 
 pub returns : goal.returns
-returns c = search special-is
+returns g c = search special-is

@@ -3,4 +3,4 @@ use Rattle.pattern.proofs.Assembly.{signed_is, signed_below}
 use Rattle.pattern.proofs.answer.with_sign.Goals as goal
 
 pub returns : goal.returns
-returns c = (search signed_is, search signed_below)
+returns g c = let laws = g.met.F.Format.laws in (search signed_is, search signed_below)

@@ -3,4 +3,4 @@ use Rattle.pattern.proofs.Assembly.{parts_are}
 use Rattle.pattern.proofs.parts.fields.Goals as goal
 
 pub returns : goal.returns
-returns c = search parts_are
+returns g c = let laws = g.met.F.Format.laws in search parts_are
