@@ -1,5 +1,5 @@
 -- Lines of numbers, number by number. Assumes nothing.
-use Rattle.std.proofs.Common.{◌≡◌, refl, sym, ap, ◌∙◌, ℕ, zero, suc, ◌+◌, ◌≤◌, ◌<◌, List, [], ◌∷◌, ◌++◌, length, take, arith, add-one, ℤ, pos, negsuc, slice_index_or, append_assoc, append-nil, FitsSigned, w32, w64, to_z, of_z}
+use Rattle.std.proofs.Common.{◌≡◌, refl, sym, ap, ◌∙◌, ℕ, zero, suc, ◌+◌, ◌≤◌, ◌<◌, List, [], ◌∷◌, ◌++◌, length, take, arith, add-one, ℤ, pos, negsuc, slice_index_or, append_assoc, length-append, append-nil, FitsSigned, w32, w64, to_z, of_z}
 use Rattle.std.proofs.lemmas.Int.{to_z-of_z}
 use Rattle.std.proofs.lemmas.List.{take_all}
 use Rattle.decimal.specs.Digits.{signed_decimal}
@@ -41,15 +41,22 @@ line_ended xs z ns i s h e f =
     ∙ line-last xs z
     ∙ ap line (sym e)
 
--- a number of 32 bits that is read and widened
-pub widened : (r x : ℤ) → FitsSigned w32 x → r ≡ to_z w32 (of_z w32 x) → to_z w64 (of_z w64 r) ≡ x
-widened r x f e =
-    let g : r ≡ x = e ∙ to_z-of_z w32 x f in
-    let wide : FitsSigned w64 x = record { sfits = omega (arith, f.sfits) } in
-    ap (λ (z : ℤ). to_z w64 (of_z w64 z)) g ∙ to_z-of_z w64 x wide
-
--- it has at most 11 characters
-pub length-word : (z : ℤ) → FitsSigned w32 z → length (signed_decimal z) ≤ 11
+-- a number of 32 bits has at most 11 characters
+length-word : (z : ℤ) → FitsSigned w32 z → length (signed_decimal z) ≤ 11
 unfolding signed_decimal
 length-word (pos n) h = omega (arith, length-decimal n 9 (omega (arith, h.sfits)))
 length-word (negsuc n) h = omega (arith, length-decimal (suc n) 9 (omega (arith, h.sfits)))
+
+-- one that is read, widened and pushed
+module _ (r x : ℤ) (e : r ≡ to_z w32 (of_z w32 x)) (f : FitsSigned w32 x) where
+  widened : to_z w64 (of_z w64 r) ≡ x
+  widened =
+      let wide : FitsSigned w64 x = record { sfits = omega (arith, f.sfits) } in
+      ap (λ (z : ℤ). to_z w64 (of_z w64 z)) (e ∙ to_z-of_z w32 x f) ∙ to_z-of_z w64 x wide
+
+  pub short : length (signed_decimal (to_z w64 (of_z w64 r))) ≤ 11
+  short = rw widened (length-word x f)
+
+  pub pushed : (s b t : List ℕ) → t ≡ s ++ signed_decimal (to_z w64 (of_z w64 r)) ++ b
+      → (t ≡ s ++ signed_decimal x ++ b) × (length t ≤ length s + 11 + length b)
+  pushed s b t h = (rw widened at h, omega (arith, simp length-append at (ap length h), short))

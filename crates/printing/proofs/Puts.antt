@@ -1,12 +1,10 @@
 -- Texts put into a buffer, one behind the other. Assumes nothing.
-use Rattle.std.proofs.Common.{◌≡◌, refl, sym, ap, ap₂, ◌∙◌, ℕ, ◌+◌, ◌-◌, ◌*◌, ◌≤◌, List, [], ◌++◌, length, take, drop, arith, le_refl, add-one, append_assoc, length-append, length-take, length-drop, add-zero}
+use Rattle.std.proofs.Common.{◌≡◌, refl, sym, ap, ap₂, ◌∙◌, ℕ, ◌+◌, ◌-◌, ◌*◌, ◌≤◌, List, [], ◌++◌, length, arith, le_refl, add-one, length-append, length-take, length-drop, add-zero}
 use Rattle.std.proofs.Math.Nat.{mul-suc}
-use Rattle.std.proofs.lemmas.List.Edits.{paste_all}
-use Rattle.std.proofs.lemmas.Slice.{put_mid-paste}
 use borrow.Rule.Slice.PartMut.{put_mid}
 use Rattle.words.specs.Splice.{splice}
 use Rattle.words.specs.Joined.{joined}
-use Rattle.words.proofs.Splicing.{splice-none, splice-splice}
+use Rattle.words.proofs.Splicing.{spliced, splice-none, splice-splice}
 use Rattle.printing.specs.Put.{PutAt}
 
 length-splice : (at : ℕ) (b l : List ℕ) → at + length b ≤ length l → length (splice at b l) ≡ length l
@@ -16,12 +14,8 @@ length-splice at b l h = simp (length-append, length-take, length-drop) (omega a
 -- a write to the bytes from `at` to `at + length b`
 pub text-put : (at : ℕ) (b l m : List ℕ) → m ≡ b → at + length b ≤ length l
     → PutAt at (length b) b l (at + length b) (put_mid at (at + length b - at) l m)
-unfolding splice
 text-put at b l m e h =
-    let is : put_mid at (at + length b - at) l m ≡ splice at b l =
-    put_mid-paste at (at + length b - at) l m b (length b) e (omega arith) refl
-    ∙ paste_all l at b (length b) refl
-    ∙ sym (append_assoc (take at l) b (drop (at + length b) l)) in
+    let is : put_mid at (at + length b - at) l m ≡ splice at b l = spliced at (length b) l m b e refl in
     record { is = is; behind = refl; most = le_refl _; same = ap length is ∙ length-splice at b l h }
 
 -- nothing put
