@@ -40,23 +40,12 @@ use Rattle.text.specs.Text.{map_most, list_most, text_most, sizes_line, record_l
 use Rattle.printing.specs.Entries.{entry_line}
 use Rattle.text.specs.Call.{TextCall}
 
--- ---- the sizes, and the records behind them
-
-module _ (w d : ℕ) (s : Sizes w d) where
-  pub some-columns : 0 < w - 2
-  some-columns = omega (arith, s.wide)
-
-  pub count_small : count_of w d < 1000000000
-  count_small = omega (arith, count_most w d s)
-
-  module _ (b l : List ℕ) (end : ℕ) (l₁ : List ℕ) (h : text_most ≤ length l) (few : length b ≤ 48) (p : PutAt 0 (length b) b l end l₁) where
-    pub records-room : end + 60 * count_of w d ≤ length l₁
-    records-room = omega (arith, count_most w d s, p.most, p.same)
-
-    pub list_put : (c a : List ℕ) (r : ℕ) (l₂ : List ℕ) → b ≡ c → PutAt end (60 * count_of w d) a l₁ r l₂ → PutAt 0 text_most (c ++ a) l r l₂
-    list_put c a r l₂ e q =
-        rw e at (put-within 0 (length b + 60 * count_of w d) text_most (b ++ a) l r l₂ (omega (arith, count_most w d s))
-        (put-behind 0 (length b) (60 * count_of w d) end r b a l l₁ l₂ (omega (arith, count_most w d s)) p q))
+-- the line of the sizes, and the records behind it
+pub list_put : (w d : ℕ) → Sizes w d → (b l : List ℕ) (end : ℕ) (l₁ c a : List ℕ) (r : ℕ) (l₂ : List ℕ) → text_most ≤ length l → length b ≤ 48 → b ≡ c
+    → PutAt 0 (length b) b l end l₁ → PutAt end (60 * count_of w d) a l₁ r l₂ → PutAt 0 text_most (c ++ a) l r l₂
+list_put w d s b l end l₁ c a r l₂ h few e p q =
+    rw e at (put-within 0 (length b + 60 * count_of w d) text_most (b ++ a) l r l₂ (omega (arith, count_most w d s))
+    (put-behind 0 (length b) (60 * count_of w d) end r b a l l₁ l₂ (omega (arith, count_most w d s)) p q))
 
 -- ---- what is printed
 

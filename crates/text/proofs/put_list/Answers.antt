@@ -12,5 +12,5 @@ returns c =
     let step = to_z_pos w32 t.step (omega arith) in
     let radius = to_z_pos w32 t.radius (omega arith) in
     let few : length c.as_str.result.now ≤ 48 = omega (arith, ap length c.as_str.ensures.value, c.line-sizes.ensures.short) in
-    list_put t.width t.depth c.requires.sizes _ _ _ _ c.requires.text_most_in_bounds few c.put-end.ensures _ _ _ _
-    (c.as_str.ensures.value ∙ rw (width, depth, step, radius) at c.line-sizes.ensures.text) c.put_records.ensures
+    list_put t.width t.depth c.requires.sizes _ _ _ _ _ _ _ _ c.requires.text_most_in_bounds few
+    (c.as_str.ensures.value ∙ rw (width, depth, step, radius) at c.line-sizes.ensures.text) c.put-end.ensures c.put_records.ensures
