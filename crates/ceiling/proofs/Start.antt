@@ -168,14 +168,8 @@ module _ (n y j : ℕ) (leading : LeadingOf n y j) (small : n < 2 ^ 44) where
           above = a;
         }
 
-    pub quotient_fits : Fits w64 (g / unit_of j + 1)
-    quotient_fits = omega (arith, starts.most)
-
     pub square-fits : Fits w64 (start_of j g * start_of j g)
     square-fits = omega (arith, mul-le-mul starts.most starts.most)
-
-    pub next_fits : Fits w64 (start_of j g + 1)
-    next_fits = omega (arith, starts.most)
 
 -- one test of squares settles it
 module _ (n c : ℕ) (small : n < 2 ^ 44) (start : Starts n c) where

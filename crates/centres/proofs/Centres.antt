@@ -1,11 +1,9 @@
 -- The offsets and the centre at a point, as the code works them out. Assumes nothing.
-use mathlib.Core.Path.{◌≡◌, refl, ap, subst, ◌∙◌}
+use mathlib.Core.Path.{◌≡◌, refl, ap, ◌∙◌}
 use mathlib.Core.List.{List}
-use Prim.Native.Nat.{ℕ, ◌+◌, ◌*◌, ◌^◌, ◌≤◌, ◌<◌}
+use Prim.Native.Nat.{ℕ, ◌+◌, ◌*◌, ◌≤◌}
 use native.Mathlib.Nat.{mul-le-mul}
 use native.Mathlib.Omega.{arith}
-use mir.Val.{Fits}
-use mir.Syntax.{w64}
 use lib.ListN.{length}
 use lib.IntN.{ℤ, pos, neg_ℤ, ◌+ℤ◌}
 use Rattle.kinds.specs.declared.Mode.{Mode}
@@ -16,82 +14,21 @@ use Rattle.words.specs.Splice.{splice}
 use Rattle.words.proofs.Splicing.{three-words}
 use Rattle.words.proofs.Differences.{abs_neg, signed-small, parts-pos, magnitude-is, negative-is}
 use Rattle.words.specs.declared.Signed.{Signed}
-use Rattle.cutter.specs.Offset.{rounded_over, squared_length, offset_of}
+use Rattle.cutter.specs.Offset.{squared_length, offset_of}
 use Rattle.cutter.proofs.Offsets.{offset-parts}
 use Rattle.cutter.proofs.Points.{height-is, record_is}
-use Rattle.offset.specs.Inverse.{length_most, ScaleOf, ComponentRange}
-use Rattle.offset.specs.declared.Component.{Component}
 use Rattle.trailer.specs.declared.Fields.{Fields}
 use Rattle.cutter.specs.Map.{Inner, height_at, dx_at, dy_at}
 use Rattle.cutter.specs.Centre.{centre_of, point_at, record_bytes}
 use Rattle.cutter.specs.Limits.{side_most, step_most}
 use Rattle.cutter.specs.Accepted.{Sizes, Steps}
-use Rattle.normals.specs.Normal.{NormalOf, Measured}
 use Rattle.centres.specs.Prepared.{signed_of, squared_of, PreparedOf}
 use Rattle.centres.specs.Words.{offset_parts, up_of, offsets_of, words_bytes}
-use Rattle.normals.specs.declared.Normal.{Normal}
 use Rattle.centres.specs.declared.Offsets.{Offsets}
 use Rattle.centres.specs.declared.Prepared.{Prepared}
 use Rattle.centres.specs.declared.Words.{Words}
 
--- ---- a point that is prepared
-
--- by the normal at it
-pub prepared-is : (m : List ℕ) (t : Fields) (column row : ℕ) (n : Normal) (x y : Component) (scale : ℕ)
-    → NormalOf (dx_at m t.width column row) (dy_at m t.width column row) n → Measured n t.step
-    → signed_of x ≡ n.x → signed_of y ≡ n.y → ScaleOf n.squared t.radius scale → PreparedOf m t column row (record { x = x; y = y; scale = scale })
-prepared-is m t column row n x y scale f g ex ey e =
-    let mx : x.magnitude ≡ n.x.magnitude = ap (λ (s : Signed). s.magnitude) ex in
-    let my : y.magnitude ≡ n.y.magnitude = ap (λ (s : Signed). s.magnitude) ey in
-    let sx : x.square ≡ n.x.magnitude * n.x.magnitude = x.squared ∙ ap (λ k. k * k) mx in
-    let sy : y.square ≡ n.y.magnitude * n.y.magnitude = y.squared ∙ ap (λ k. k * k) my in
-    record {
-      x = ex ∙ f.x;
-      y = ey ∙ f.y;
-      scale = subst (λ (q : ℕ). ScaleOf q t.radius scale) (omega (arith, g.squared)) e;
-    }
-
--- its normal's squared length, and the ranges of the components
-module _ (n : Normal) (step radius : ℕ) (f : Measured n step) (g : Steps step radius) where
-  pub squared-least : 0 < n.squared
-  squared-least = omega (arith, f.squared, mul-le-mul g.step-least g.step-least)
-
-  pub squared-most : n.squared < 2 ^ 35
-  squared-most =
-      omega (arith, f.squared, mul-le-mul f.x-most f.x-most, mul-le-mul f.y-most f.y-most, mul-le-mul g.step-most g.step-most)
-
-pub square-fits : (s : Signed) → s.magnitude ≤ length_most → Fits w64 (s.magnitude * s.magnitude)
-square-fits s h = omega (arith, mul-le-mul h h)
-
-pub step_fits : (step radius : ℕ) → Steps step radius → Fits w64 (4 * step * step)
-step_fits step radius g = omega (arith, mul-le-mul g.step-most g.step-most)
-
-module _ (p : Prepared) (step radius : ℕ) (g : Steps step radius) where
-  abbrev q : ℕ
-  q = squared_of p step
-
-  q-least : 0 < q
-  q-least = omega (arith, mul-le-mul g.step-least g.step-least)
-
-  q-most : q < 2 ^ 35
-  q-most =
-      omega (arith, p.x.squared, p.y.squared, mul-le-mul p.x.short p.x.short, mul-le-mul p.y.short p.y.short, mul-le-mul g.step-most g.step-most)
-
-  pub sum_fits : Fits w64 (p.x.square + p.y.square)
-  sum_fits = omega (arith, q-most)
-
-  pub squared-sum-fits : Fits w64 q
-  squared-sum-fits = omega (arith, q-most)
-
-  pub ranges-of : (square : ℕ) → square ≤ q → ComponentRange square radius q
-  ranges-of square k = record { radius-most = omega (arith, g.radius-most); squared = k; least = q-least; most = q-most }
-
 -- ---- the offsets
-
--- the sign kept and the magnitude rounded
-pub offset_made : (mode : Mode) (c : Component) (magnitude radius l : ℕ) → magnitude ≡ rounded_over mode c.negative (c.magnitude * radius) l
-    → record { negative = c.negative; magnitude = magnitude } ≡ offset_parts mode (signed_of c) radius l
-offset_made mode c magnitude radius l e = ap (λ (m : ℕ). record { negative = c.negative; magnitude = m }) e
 
 pub offsets_are : (mode : Mode) (p : Prepared) (step radius : ℕ) (x y z : Signed) → x ≡ offset_parts mode (signed_of p.x) radius (squared_of p step)
     → y ≡ offset_parts mode (signed_of p.y) radius (squared_of p step) → z ≡ offset_parts mode (up_of step) radius (squared_of p step)
@@ -110,22 +47,6 @@ module _ (w d c q step radius : ℕ) (s : Sizes w d) (h : Inner w d c q) (g : St
 
   row-most : q * step ≤ 640000
   row-most = coordinate-most q step (omega (arith, h.below, s.shallow)) g.step-most
-
-  pub column_fits : Fits w64 (c * step)
-  column_fits = omega (arith, column-most)
-
-  pub row_fits : Fits w64 (q * step)
-  row_fits = omega (arith, row-most)
-
-  pub column-small : c * step < 4294967296
-  column-small = omega (arith, column-most)
-
-  pub row_small : q * step < 4294967296
-  row_small = omega (arith, row-most)
-
-pub ruleset coordinate-fits = (column_fits, row_fits)
-
-pub ruleset coordinate-small = (column-small, row_small)
 
 -- ---- the centre
 
@@ -181,6 +102,3 @@ pub words-put : (k : Words) (at : ℕ) (l l₁ l₂ l₃ : List ℕ) → at + 12
     → l₃ ≡ splice at (words_bytes k) l
 unfolding words_bytes
 words-put k at l l₁ l₂ l₃ = three-words at k.x k.y k.z l l₁ l₂ l₃
-
-pub point-put : (k : Words) (b : List ℕ) (at : ℕ) (l l₁ : List ℕ) → words_bytes k ≡ b → l₁ ≡ splice at (words_bytes k) l → l₁ ≡ splice at b l
-point-put k b at l l₁ e f = f ∙ ap (λ (r : List ℕ). splice at r l) e

@@ -3,10 +3,7 @@ use Prim.Native.Nat.{ℕ, ◌+◌, ◌-◌, ◌*◌, ◌%◌, ◌^◌, ◌≤◌
 use mathlib.Core.Path.{◌≡◌, sym, ap, ◌∙◌}
 use mathlib.Core.Bool.{true}
 use mathlib.Core.List.{List}
-use native.Mathlib.Nat.{mul-le-mul}
 use native.Mathlib.Omega.{arith}
-use mir.Syntax.{w64}
-use mir.Val.{Fits}
 use lib.ListN.{length}
 use lib.IntN.{ℤ, pos, nat_abs, sub_ℕ, ◌+ℤ◌, ◌-ℤ◌, +ℤ_comm, -ℤ-+ℤ_cancel}
 use Rattle.words.specs.Word.{word_at, word_bytes}
@@ -16,11 +13,9 @@ use Rattle.words.specs.Splice.{splice}
 use Rattle.words.specs.declared.Signed.{Signed}
 use Rattle.words.proofs.Differences.{diff-word, word_small, signed_word, word-signed, magnitude-is, sign-back}
 use Rattle.words.proofs.Splicing.{three-words}
-use Rattle.cutter.specs.Limits.{side_most, step_most, radius_most, height_most}
-use Rattle.cutter.specs.Map.{Inner}
+use Rattle.cutter.specs.Limits.{radius_most, height_most}
 use Rattle.cutter.specs.Centre.{record_bytes}
 use Rattle.cutter.specs.Lift.{nine_at, lifted_over, lifted}
-use Rattle.cutter.specs.Accepted.{Sizes, Steps}
 use Rattle.cutter.proofs.Lifts.{same-nine}
 use Rattle.raising.specs.Biased.{lowered}
 use Rattle.nine.specs.Offset.{centre_from}
@@ -43,31 +38,6 @@ module _ (u p v : ℕ) (e : v ≡ word_of (signed u +ℤ with_sign true p)) (h :
   pub away-most : (s : Signed) → s ≡ parts_of (signed v) → s.magnitude ≤ radius_most
   away-most s f = omega (arith, magnitude-is s (signed u -ℤ pos p) (away-is s f))
 
--- ---- the places
-
-module _ (w d c q step radius : ℕ) (s : Sizes w d) (i : Inner w d c q) (g : Steps step radius) where
-  column-to : c * step ≤ side_most * step_most
-  column-to = mul-le-mul {n₁ = c} {m₁ = step} {n₂ = side_most} {m₂ = step_most} (omega (arith, i.right, s.narrow)) g.step-most
-
-  row-to : q * step ≤ side_most * step_most
-  row-to = mul-le-mul {n₁ = q} {m₁ = step} {n₂ = side_most} {m₂ = step_most} (omega (arith, i.below, s.shallow)) g.step-most
-
-  pub column_fits : Fits w64 (c * step)
-  column_fits = omega (arith, column-to)
-
-  pub row_fits : Fits w64 (q * step)
-  row_fits = omega (arith, row-to)
-
-  pub column-small : c * step < 2147483648
-  column-small = omega (arith, column-to)
-
-  pub row_small : q * step < 2147483648
-  row_small = omega (arith, row-to)
-
-pub ruleset coordinates-fit = (column_fits, row_fits)
-
-pub ruleset coordinates-small = (column-small, row_small)
-
 -- ---- z
 
 -- a word's number with the bias
@@ -79,12 +49,6 @@ module _ (z b : ℕ) (h : z < 4294967296) (e : signed z ≡ sub_ℕ b height_mos
   biased-back = omega (arith, word-is)
 
 module _ (step c q x y z : ℕ) (r : Reaches step c q (centre_of_words x y z)) where
-  pub x-near : nat_abs (signed x -ℤ pos (c * step)) ≤ radius_most
-  x-near = r.x
-
-  pub y-near : nat_abs (signed y -ℤ pos (q * step)) ≤ radius_most
-  y-near = r.y
-
   pub biased-small : (b : ℕ) → z < 4294967296 → b ≡ (z + height_most) % 4294967296 → b < 2 ^ 30
   biased-small b h e = omega (arith, biased-back z r.biased h r.z r.small, r.small)
 
@@ -102,10 +66,6 @@ module _ (step c q x y z : ℕ) (r : Reaches step c q (centre_of_words x y z)) w
       cc
 
 -- ---- the record
-
-pub reaches-read : (step c q at x y z : ℕ) (l : List ℕ) → x ≡ word_at l at → y ≡ word_at l (at + 4) → z ≡ word_at l (at + 8)
-    → Reaches step c q (centre_read l at) → Reaches step c q (centre_of_words x y z)
-reaches-read step c q at x y z l ex ey ez r = rw (ex, ey, ez) r
 
 pub record-lifted : (m : List ℕ) (w step radius c q at x y z v : ℕ) (l l₁ l₂ l₃ : List ℕ) → at + 12 ≤ length l
     → x ≡ word_at l at → y ≡ word_at l (at + 4) → z ≡ word_at l (at + 8) → x < 4294967296 → y < 4294967296

@@ -1,4 +1,3 @@
 pub mod Questions
 pub mod Heights
-pub mod Places
 pub mod Words

@@ -5,8 +5,8 @@ use Prim.Native.Nat.{ℕ, ◌+◌, ◌-◌, ◌*◌, ◌%◌, ◌≤◌, ◌<◌
 use native.Mathlib.Omega.{arith}
 use lib.Dec.{lit<}
 use mir.Facts.{to_z-of_z}
-use mir.Val.{Fits, SFits, of_z, to_z}
-use mir.Syntax.{w32, w64}
+use mir.Val.{SFits, of_z, to_z}
+use mir.Syntax.{w32}
 use lib.IntN.{ℤ, pos, negsuc, nat_abs, sub_ℕ, ◌-ℤ◌}
 use Rattle.words.specs.Word.{word_at}
 use Rattle.words.specs.Signed.{signed}
@@ -15,9 +15,8 @@ use Rattle.words.specs.declared.Signed.{Signed}
 use Rattle.words.proofs.Differences.{diff-sub, diff-eq, diff-abs, magnitude-is, within-biased, signed-biased}
 use Rattle.cutter.specs.Limits.{height_most, difference_most}
 use Rattle.cutter.specs.Map.{Inner, dx_at, dy_at}
-use Rattle.cutter.specs.Accepted.{Sizes, Heights}
-use Rattle.cutter.proofs.Counts.{size-most}
-use Rattle.cutter.proofs.Places.{around, dx-is, dy-is}
+use Rattle.cutter.specs.Accepted.{Heights}
+use Rattle.cutter.proofs.Places.{dx-is, dy-is}
 use Rattle.normals.specs.Normal.{NormalOf}
 
 -- a difference of heights is a number of 32 bits
@@ -68,15 +67,6 @@ module _ (m : List ℕ) (i j count u v : ℕ) (hs : Heights m count) (hi : i < c
 
     pub slope-most : s.magnitude ≤ difference_most
     slope-most = omega (arith, magnitude-is s (height i -ℤ height j) slope-is, less-short)
-
--- ---- the places around an inner point
-
-module _ (w d c q : ℕ) where
-  pub right-fits : Sizes w d → Inner w d c q → Fits w64 (q * w + c + 1)
-  right-fits s h = omega (arith, around w d c q h, size-most w d s, h.right)
-
-  pub below-fits : Sizes w d → Inner w d c q → Fits w64 (q * w + c + w)
-  below-fits s h = omega (arith, around w d c q h, size-most w d s)
 
 -- the two slopes are the normal's components
 pub normal-is : (m : List ℕ) (w d c q p l : ℕ) (x y : Signed) → Inner w d c q → p ≡ q * w + c

@@ -1,5 +1,5 @@
 -- One test settles n over √q, rounded: t and the next are told apart by where 2n over √q lies. Assumes nothing.
-use Rattle.std.proofs.Common.{◌≡◌, ℕ, suc, ◌+◌, ◌-◌, ◌*◌, ◌/◌, ◌%◌, ◌^◌, ◌<◌, ◌≤◌, Bool, true, false, cond, not, eqb, sym, refl, ap, ◌∙◌, subst, ap₂, mul-le-mul_right, mul-le-mul, arith, w64, Fits, le-ltb, lt-ltb, eq-eqb, ne_eqb}
+use Rattle.std.proofs.Common.{◌≡◌, ℕ, suc, ◌+◌, ◌-◌, ◌*◌, ◌/◌, ◌%◌, ◌^◌, ◌<◌, ◌≤◌, Bool, true, false, cond, not, eqb, sym, refl, ap, ◌∙◌, subst, ap₂, mul-le-mul_right, mul-le-mul, arith, le-ltb, lt-ltb, eq-eqb, ne_eqb}
 use mathlib.Core.Logic.{by_cases}
 use native.Mathlib.Decide.{dec_lt, dec_le}
 use mir.Val.{bool_byte}
@@ -11,7 +11,7 @@ use Rattle.kinds.proofs.Ties.{toward_zero}
 use Rattle.kinds.proofs.Halves.{up-stays, down-stays, down-as-up, up-exact, up-below, up-odd, nearest-even, nearest-above, nearest-half, nearest-rest, up_rest, down-rest, zero_rest}
 use Rattle.cutter.specs.Offset.{rounded_over}
 use Rattle.offset.specs.declared.Component.{Component}
-use Rattle.offset.specs.Inverse.{length_most, ScaleOf, ComponentRange, QuotientRange, Started}
+use Rattle.offset.specs.Inverse.{ScaleOf, ComponentRange, QuotientRange, Started}
 use Rattle.offset.specs.Settled.{taken_by, settled_by, sign_of}
 use Rattle.offset.proofs.Places.{DoubledOver, rounded-is, squares-are, offset-ranges, offset-short, started}
 
@@ -206,10 +206,6 @@ bit-rest : (inward : Bool) → 2 * bool_byte inward ≡ cond inward 2 0
 bit-rest true = refl
 bit-rest false = refl
 
-pub bit-most : (inward : Bool) → bool_byte inward ≤ 1
-bit-most true = omega arith
-bit-most false = omega arith
-
 module _ (mode : Mode) (negative : Bool) (start nn q x : ℕ) where
   by-rest : (rest : ℕ) → rest ≡ rest_of mode negative → x ≡ settled_by rest start nn q → x ≡ settled_by (rest_of mode negative) start nn q
   by-rest rest z e = e ∙ ap (λ (y : ℕ). settled_by y start nn q) z
@@ -263,9 +259,6 @@ module _ (rest start nn q : ℕ) (most : rest ≤ 2) (started : Started start nn
   m-most : m ≤ start + 2
   m-most = omega arith
 
-  pub square-fits : Fits w64 (m * m)
-  square-fits = omega (arith, mul-le-mul m-most m-most, started.start-most, mul-le-mul started.start-most started.start-most)
-
   -- the two sides of the test are both from start² to (start + 2)², times q
   apart : (start + 2) * (start + 2) * q ≤ start * start * q + 2 ^ 61
   apart = omega (arith, mul-le-mul started.start-most started.most, started.most)
@@ -293,11 +286,6 @@ module _ (i start nn q : ℕ) (most : i ≤ 1) (started : Started start nn q) wh
   abbrev whole : ℕ
   whole = (start + 1 - i) / 2
 
-  pub whole-fits : Fits w64 ((whole + i) * (whole + i))
-  whole-fits =
-      let h : (start + 1 - i) / 2 + i ≤ 2 * length_most = omega (arith, started.start-most) in
-      omega (arith, mul-le-mul h h)
-
   settled-whole : (x : ℕ) → x ≡ sign_of ((whole + i) * (whole + i) * q % 2 ^ 64) ((nn + i) % 2 ^ 64) → whole + x ≡ settled_by (2 * i) start nn q
   unfolding settled_by taken_by
   settled-whole x e =
@@ -320,13 +308,6 @@ module _ (i start nn q : ℕ) (most : i ≤ 1) (started : Started start nn q) wh
       (omega (arith, four, apart (2 * i) start nn q even started, high-side (2 * i) start nn q even started, started.low)) in
       let g : 4 * nn + (2 * i + t % 2) / 2 ≤ m * m * q = omega (arith, four, tie) in
       simp (le-ltb (m * m * q) (4 * nn + (2 * i + t % 2) / 2) g) (ap₂ ◌+◌ same none ∙ omega arith))
-
--- the limit's lower word
-pub radius-fits : (radius : ℕ) → radius ≤ length_most → Fits w64 (radius * radius)
-radius-fits radius h = omega (arith, mul-le-mul h h)
-
-pub limit-fits : (radius : ℕ) → radius ≤ length_most → Fits w64 (4 * (radius * radius))
-limit-fits radius h = omega (arith, mul-le-mul h h)
 
 limit_is : (square radius tie : ℕ) → (square * (4 * (radius * radius)) % 2 ^ 64 + tie) % 2 ^ 64 ≡ (4 * (square * (radius * radius)) + tie) % 2 ^ 64
 limit_is square radius tie =

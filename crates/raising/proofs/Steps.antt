@@ -81,32 +81,12 @@ module _ (radius h apart : ℕ) where
               omega (arith, square-below (z - h) (y - h) (omega arith));
         }
 
-    pub keeps-off : b ≡ false → NotPast (meets_one radius h apart) z z
-    keeps-off f = record { above = omega arith; least = λ y l t. l }
-
-    pub square_above : b ≡ true → apart ≤ radius * radius
-    square_above t = omega (arith, near-is t)
-
-    pub square-some : b ≡ true → 0 < radius * radius - apart
-    square-some t = omega (arith, near-is t)
-
   pub raised-small : (r : ℕ) → r ≡ ceiling_root (radius * radius - apart) → radius < 2 ^ 22 → h < 2 ^ 30 → h + r < 2 ^ 31
   raised-small r r-is small low = omega (arith, ceiling-least (radius * radius - apart) (2 ^ 22) (omega (arith, mul-le-mul small small)))
 
 -- sizes
 pub raised-fits : (radius apart a r : ℕ) → r ≡ ceiling_root (radius * radius - apart) → radius < 2 ^ 22 → a < 2 ^ 30 → Fits w64 (a + r)
 raised-fits radius apart a r r-is small low = omega (arith, ceiling-least (radius * radius - apart) (2 ^ 22) (omega (arith, mul-le-mul small small)))
-
-pub above-fits : (z h d : ℕ) → d ≡ z - h → z < 2 ^ 31 → Fits w64 (d * d)
-above-fits z h d e small =
-    let m : d ≤ 2 ^ 31 = omega arith in
-    omega (arith, mul-le-mul m m)
-
-pub square-fits : (radius : ℕ) → radius < 2 ^ 22 → Fits w64 (radius * radius)
-square-fits radius small = omega (arith, mul-le-mul small small)
-
-pub square-small : (radius apart : ℕ) → radius < 2 ^ 22 → radius * radius - apart < 2 ^ 44
-square-small radius apart small = omega (arith, mul-le-mul small small)
 
 -- ---- several heights
 

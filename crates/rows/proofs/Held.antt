@@ -34,9 +34,6 @@ module _ (p : Point) (map : Map) (n row : ℕ) (e : (p.map ≡ map) × (p.column
 
 -- ---- a row that is held
 
-pub held_none : (m : List ℕ) (t : Fields) (row : ℕ) (l : List Prepared) → RowHeld m t row 0 l
-held_none m t row l = record { each = λ c none h. absurd (omega arith) }
-
 pub held_more : (m : List ℕ) (t : Fields) (row n : ℕ) (l : List Prepared) (p : Prepared) → n < length l → RowHeld m t row n l
     → PreparedOf m t (n + 1) (row + 1) p → RowHeld m t row (n + 1) (set l n p)
 held_more m t row n l p room held here =

@@ -142,6 +142,3 @@ module _ (mode : Mode) (m : List ℕ) (t : Fields) (row : ℕ) (l l₁ : List �
       ∙ ap (splice at b) e
       ∙ splice-again at a b l at_most (length-row Touching mode m (t.width - 2) row ∙ sym (length-row Lifted mode m (t.width - 2) row))
       ∙ ap (λ (u : Rule). splice at (row_bytes u mode m (t.width - 2) row) l) (sym z)
-
-  pub row-by-touching : (rule : Rule) → rule ≡ Touching → l₁ ≡ splice (row * (12 * (t.width - 2))) (row_bytes rule mode m (t.width - 2) row) l
-  row-by-touching rule z = e ∙ ap (λ (u : Rule). splice (row * (12 * (t.width - 2))) (row_bytes u mode m (t.width - 2) row) l) (sym z)

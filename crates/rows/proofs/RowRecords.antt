@@ -4,11 +4,9 @@ use mathlib.Core.List.{List}
 use Prim.Native.Nat.{ℕ, ◌+◌, ◌-◌, ◌*◌, ◌/◌, ◌%◌, ◌≤◌, ◌<◌}
 use mathlib.Core.List.{append-nil}
 use lib.ListN.{take-append-drop}
-use native.Mathlib.Nat.{zero-add, add-zero, mul_comm, mul-le-mul, mod-eq_of_lt, div-eq_of_lt, add-mul-div_right, add-mul-mod_self_right}
+use native.Mathlib.Nat.{zero-add, add-zero, mul_comm, mod-eq_of_lt, div-eq_of_lt, add-mul-div_right, add-mul-mod_self_right}
 use native.Mathlib.Omega.{arith}
 use lib.ListN.{length}
-use mir.Val.{Fits}
-use mir.Syntax.{w64}
 use Rattle.kinds.specs.declared.Mode.{Mode}
 use Rattle.kinds.specs.declared.Rule.{Rule}
 use Rattle.kinds.specs.declared.Rule.TheVariants.{Touching}
@@ -17,7 +15,7 @@ use Rattle.words.specs.Joined.{joined}
 use Rattle.words.proofs.Runs.{joined-more, room-left, length-joined, joined-rows}
 use Rattle.cutter.specs.Centre.{Centre, centre_of, point_at, record_bytes}
 use Rattle.cutter.specs.List.{count_of, centre_by, record_at}
-use Rattle.cutter.specs.Accepted.{Sizes, Ready}
+use Rattle.cutter.specs.Accepted.{Ready}
 use Rattle.cutter.specs.Map.{Inner, trailer_of}
 use Rattle.cutter.proofs.Lengths.{length-record}
 use Rattle.cutter.proofs.Points.{record-at}
@@ -29,22 +27,6 @@ use Rattle.trailer.specs.declared.Fields.{Fields}
 -- each has four neighbours
 pub inner_of : (w d n row : ℕ) → n < w - 2 → row < d - 2 → Inner w d (n + 1) (row + 1)
 inner_of w d n row h k = record { left = omega arith; right = omega arith; above = omega arith; below = omega arith }
-
-pub row-most : (w d row : ℕ) → Sizes w d → row < d - 2 → row * (12 * (w - 2)) ≤ 46128
-row-most w d row s h =
-    let p : row ≤ 62 = omega (arith, s.shallow) in
-    let q : 12 * (w - 2) ≤ 744 = omega (arith, s.narrow) in
-    mul-le-mul p q
-
-pub row_fits : (w d row : ℕ) → Sizes w d → row < d - 2 → Fits w64 (row * (12 * (w - 2)))
-row_fits w d row s h = omega (arith, row-most w d row s h)
-
-pub place-fits : (w d row n : ℕ) → Sizes w d → row < d - 2 → n < w - 2 → Fits w64 (row * (12 * (w - 2)) + n * 12)
-place-fits w d row n s h k = omega (arith, row-most w d row s h, s.narrow)
-
--- a row that is held has a place for each
-pub place-held : (w d n : ℕ) → Sizes w d → n < w - 2 → n < 64
-place-held w d n s h = omega (arith, s.narrow)
 
 -- ---- their records
 
