@@ -148,10 +148,13 @@ module _ (y g rest : ℕ) (Y : Significand k32 t32 y) (few : rest ≤ 2) where
           amount-is InverseRoot y (m + 1),
         )
 
-    pub inverse-taken-is : (w v r : ℕ) → w ≡ m * m * y % 2 ^ 64 → v < 2 ^ 64 → (v + rest / 2) % 2 ^ 64 ≡ w
-        → r ≡ cond (leb 9223372036854775808 v) (i + 1) i
+    pub inverse-taken-is : (w r : ℕ) → w ≡ m * m * y % 2 ^ 64
+        → r ≡ cond (leb 9223372036854775808 ((w + (2 ^ 64 - rest / 2)) % 2 ^ 64)) (i + 1) i
         → TakenOf InverseRoot y (2 ^ (73 - p)) rest (record { significand = r; more = not (eqb y 8388608) || eqb p 1 })
-    inverse-taken-is w v r ew small ev e =
+    inverse-taken-is w r ew e =
+        let v : ℕ = (w + (2 ^ 64 - rest / 2)) % 2 ^ 64 in
+        let small : v < 2 ^ 64 = omega arith in
+        let ev : (v + rest / 2) % 2 ^ 64 ≡ w = omega (arith, ew, few) in
         let F = inverse-floored y g Y p parity b in
         let s : ℕ = side InverseRoot y m in
         let multiple : target ≡ 2 ^ 64 * 2 ^ (9 - p) = power-of (73 - p) (64 ∷ (9 - p) ∷ []) (omega arith) in

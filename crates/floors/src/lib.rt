@@ -11,7 +11,6 @@ ghost use Rattle.significand.specs.Distance.{Between};
 ghost use Rattle.ieee.specs.Floor.{target_of, Floored};
 
 use kinds::Op;
-use std::num::wrapping_add_u64;
 
 // A floor, and whether something lies above it.
 #[derive(Clone, Copy)]
@@ -78,7 +77,7 @@ fn inverse_root(y: u64, p: u64, g: u64) -> Floor
 {
     let q = (g + 1) / 8;
     let side = (q * q).wrapping_mul(y);
-    let next = wrapping_add_u64(side, (2 * q + 1) * y);
+    let next = side.wrapping_add((2 * q + 1) * y);
     let above = is_above(side) as u64;
     let next_above = is_above(next) as u64;
     Floor {

@@ -10,7 +10,6 @@ ghost use Rattle.floors.specs.Taken.{TakenOf, carried_by};
 
 use crate::{HALF, LEAST_SIGNIFICAND, WHOLE, root};
 use kinds::Mode;
-use std::num::wrapping_sub_u64;
 
 // The significand, and whether the exact result is another number.
 #[derive(Clone, Copy)]
@@ -121,7 +120,7 @@ fn inverse_root_with(rest: u64, y: u64, p: u64, g: u64) -> Taken
     let t = (g + 8 - 8 * rest) / 16;
     let m = 2 * t + rest;
     let over = (m * m).wrapping_mul(y);
-    let next = HALF <= wrapping_sub_u64(over, rest / 2);
+    let next = HALF <= over.wrapping_sub(rest / 2);
     Taken {
         significand: next_if(next, t),
         more: (y != LEAST_SIGNIFICAND) | (p == 1),

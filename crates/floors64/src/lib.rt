@@ -11,7 +11,6 @@ ghost use Rattle.floors64.specs.Settled.{settled_of};
 
 use floors::Floor;
 use kinds::Op;
-use std::num::wrapping_sub_u64;
 
 // The floor of each operation's target.
 pub fn floor_of(op: Op, y: u64, p: u64, g: u64) -> Floor
@@ -63,7 +62,7 @@ fn root(y: u64, p: u64, g: u64) -> Floor
     ensures { Floored Root y (target_of 52 Root y p) result.quotient result.more }
 {
     let q = (g + 7) / 128;
-    let over = wrapping_sub_u64(q.wrapping_mul(q), y << (54 + p));
+    let over = q.wrapping_mul(q).wrapping_sub(y << (54 + p));
     settled(q, over != 0, over < HALF)
 }
 

@@ -17,7 +17,7 @@ pub fn leading_of(n: u64) -> Leading
     requires { 0 < n }
     ensures { LeadingOf n result.significand result.exponent }
 {
-    let zeros = u64::leading_zeros(n);
+    let zeros = n.leading_zeros();
     let exponent = 63 - zeros;
     let significand = ((n << zeros) >> 40) as u32;
     Leading {

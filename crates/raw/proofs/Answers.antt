@@ -1,74 +1,75 @@
--- The product of step 5, the raw answer that it is, and the answer by the operation. Assumes nothing.
-use mathlib.Core.Path.{◌≡◌, sym, ap, ap₂, ◌∙◌}
-use Prim.Native.Nat.{ℕ, ◌*◌, ◌/◌, ◌%◌, ◌^◌, ◌≤◌, ◌<◌}
-use native.Mathlib.Nat.{mul-le-mul}
+-- The raw answer by the steps of a width, and the rows of k = 7. Assumes nothing.
+use mathlib.Core.Path.{◌≡◌, refl, sym, ap, ◌∙◌}
+use Prim.Native.Nat.{ℕ, ◌+◌, ◌*◌, ◌/◌, ◌%◌, ◌^◌, ◌≤◌}
 use native.Mathlib.Omega.{arith}
 use mir.Syntax.{w64}
 use mir.Val.{Fits}
+use Rattle.std.specs.Prelude.{Result, Ok, Err}
 use Rattle.kinds.specs.declared.Op.{Op}
 use Rattle.kinds.specs.declared.Op.TheVariants.{Reciprocal}
 use Rattle.significand.specs.Width.{k32, t32, Significand, Operand}
-use Rattle.significand.specs.Steps.{factor_of, series_of, multiplier_of, raw_of}
-use Rattle.significand.proofs.Numerals.{reciprocal-multiplier, answer-is}
-use Rattle.significand.proofs.Sizes.{factor-small, multiplier-small}
+use Rattle.significand.specs.Steps.{index_of, factor_of, series_of, multiplier_of, raw_of}
+use Rattle.significand.proofs.Numerals.{index_is, reciprocal-multiplier}
+use Rattle.significand.proofs.Reduction.{least, most}
+use Rattle.significand.proofs.Sizes.{factor-small, multiplier-upto}
 use Rattle.tables.specs.declared.Row.{Row}
 use Rattle.tables.specs.Row.{index_at, parity_at, RowOf}
 use Rattle.series.specs.declared.Reduction.{Reduction}
 use Rattle.series.specs.Parts.{Reduced}
+use Rattle.raw.specs.Given.{RowGiven}
 
--- M × b has 59 bits
-pub product_small : (m b : ℕ) → m < 2 ^ 30 → b < 2 ^ 29 → m * b < 2 ^ 59
-product_small m b hm hb = omega (arith, mul-le-mul {n₁ = m} {m₁ = b} {n₂ = 1073741823} {m₂ = 536870911} (omega arith) (omega arith))
+-- ---- at every width, where a row is given
 
--- M times b of the reduced significand is the raw answer
-module _ (y r b g : ℕ) (d : Reduction) (e : r ≡ factor_of k32 (y / 65536)) (h : Reduced k32 t32 (y * r) d) where
-  raw-is : (op : Op) (p m : ℕ) → m ≡ multiplier_of k32 op (factor_of k32 (y / 65536)) p → b ≡ series_of k32 op d.positive d.magnitude
-      → g ≡ m * b / 268435456 → g ≡ raw_of k32 t32 op y p
-  raw-is op p m em eb eg =
-      answer-is op y p r d.magnitude m b g d.positive e h.sign h.magnitude eb (rw e em) eg
+module _ {E : Type 0} (k t : ℕ) (op : Op) (y p : ℕ) (x : Result ℕ E) (row : Row) (given : RowGiven k t op y p x (Ok row)) where
+  -- R, M and the answer
+  told : (row.0 ≡ factor_of k (index_of k t y)) × (row.1 ≡ multiplier_of k op row.0 p) × (x ≡ Ok (raw_of k t op y p))
+  told = by x given
+    where
+      by : (z : Result ℕ E) → RowGiven k t op y p z (Ok row)
+          → (row.0 ≡ factor_of k (index_of k t y)) × (row.1 ≡ multiplier_of k op row.0 p) × (z ≡ Ok (raw_of k t op y p))
+      by (Ok g) h = (h.0, h.1, ap Ok h.2)
+      by (Err e) h = absurd h
 
-  -- for the reciprocal M is R × 2^20
-  reciprocal-raw-is : b ≡ series_of k32 Reciprocal d.positive d.magnitude → g ≡ r * 1048576 * b / 268435456
-      → g ≡ raw_of k32 t32 Reciprocal y 0
-  reciprocal-raw-is eb eg = raw-is Reciprocal 0 (r * 1048576) (rw e (sym (reciprocal-multiplier (factor_of k32 (y / 65536)) 0))) eb eg
+  -- M is at most 2^(4k + 1)
+  pub multiplier_small : 7 ≤ k → Operand k t op y p → row.1 ≤ 2 ^ (4 * k + 1)
+  multiplier_small big o =
+      let low : 2 ^ k ≤ row.0 = rw told.0 (least k t y big o.significand) in
+      let high : row.0 ≤ 2 ^ (k + 1) = rw told.0 (most k t y big o.significand) in
+      rw told.1 (multiplier-upto k row.0 p big o.parity low high op)
 
--- by the table of R, whose key is the index's lower bits
+  -- M times b of the reduced significand is the answer
+  pub answer-is : (b g : ℕ) (d : Reduction) → Reduced k t (y * row.0) d → b ≡ series_of k op d.positive d.magnitude → g ≡ row.1 * b / 2 ^ (4 * k)
+      → Ok g ≡ x
+  unfolding raw_of
+  answer-is b g d h eb eg = ap Ok (eg ∙ cc (told.0, told.1, h.sign, h.magnitude, eb)) ∙ sym told.2
+
+-- ---- at k = 7
+
+-- the table of R has that of a significand at its index's lower bits
 module _ (y r : ℕ) (Y : Significand k32 t32 y) (f : r ≡ factor_of k32 (index_at k32 (y / 65536 % 128))) where
-  pub factor-is : r ≡ factor_of k32 (y / 65536)
+  factor-is : r ≡ factor_of k32 (y / 65536)
   factor-is =
       let i : index_at k32 (y / 65536 % 128) ≡ y / 65536 = omega (arith, Y.least, Y.below) in
       f ∙ ap (factor_of k32) i
 
-  pub scaled_small : r * 1048576 < 2 ^ 30
-  scaled_small = omega (arith, factor-small y Y r factor-is)
-
   pub scaled_fits : Fits w64 (r * 1048576)
-  scaled_fits = record { fits = omega (arith, scaled_small) }
+  scaled_fits = record { fits = omega (arith, factor-small y Y r factor-is) }
 
-  pub answer-by-factor : (b g : ℕ) (d : Reduction) → Reduced k32 t32 (y * r) d → b ≡ series_of k32 Reciprocal d.positive d.magnitude
-      → g ≡ r * 1048576 * b / 268435456 → g ≡ raw_of k32 t32 Reciprocal y 0
-  answer-by-factor b g d h = reciprocal-raw-is y r b g d factor-is h
+-- R of the index
+pub index-factor : (y r : ℕ) → r ≡ factor_of k32 (index_of k32 t32 y) → r ≡ factor_of k32 (y / 65536)
+index-factor y r e = e ∙ ap (factor_of k32) (index_is y)
 
--- by the row of a root whose key stands for y and p
-module _ (op : Op) (y p key : ℕ) (r : Row) (h : RowOf k32 op key r) (i : index_at k32 key ≡ y / 65536) where
-  pub row-factor : r.0 ≡ factor_of k32 (y / 65536)
-  row-factor = h.factor ∙ ap (factor_of k32) i
+-- the rows
+pub reciprocal-given : (op : Op) (y p : ℕ) (row : Row) → op ≡ Reciprocal → row.0 ≡ factor_of k32 (y / 65536) → row.1 ≡ row.0 * 1048576
+    → RowGiven {E = ⊥} k32 t32 op y p (Ok (raw_of k32 t32 op y p)) (Ok row)
+reciprocal-given op y p row o e f = (e ∙ ap (factor_of k32) (sym (index_is y)), rw o (f ∙ sym (reciprocal-multiplier row.0 p)), refl)
 
-  module _ (e : parity_at k32 key ≡ p) where
-    row-multiplier : r.1 ≡ multiplier_of k32 op (factor_of k32 (y / 65536)) p
-    row-multiplier = h.multiplier ∙ ap₂ (λ (j q : ℕ). multiplier_of k32 op (factor_of k32 j) q) i e
-
-    pub row_small : Significand k32 t32 y → p ≤ 1 → r.1 < 2 ^ 30
-    row_small Y parity = multiplier-small y Y op p r.1 parity row-multiplier
-
-    pub answer-by-row : (b g : ℕ) (d : Reduction) → Reduced k32 t32 (y * r.0) d → b ≡ series_of k32 op d.positive d.magnitude
-        → g ≡ r.1 * b / 268435456 → g ≡ raw_of k32 t32 op y p
-    answer-by-row b g d reduced = λ eb. raw-is y r.0 b g d row-factor reduced op p r.1 row-multiplier eb
-
--- the answer by the operation
-module _ (op : Op) (y p g : ℕ) where
-  pub reciprocal-answer : op ≡ Reciprocal → Operand k32 t32 op y p → g ≡ raw_of k32 t32 Reciprocal y 0 → g ≡ raw_of k32 t32 op y p
-  reciprocal-answer o h e = rw (h.even o, o) e
-
-  pub case-answer : (case : Op) → op ≡ case → g ≡ raw_of k32 t32 case y p → g ≡ raw_of k32 t32 op y p
-  case-answer case o e = rw o e
+pub root-given : (op case : Op) (y p key : ℕ) (row : Row) → op ≡ case → RowOf k32 case key row → index_at k32 key ≡ y / 65536
+    → parity_at k32 key ≡ p
+    → RowGiven {E = ⊥} k32 t32 op y p (Ok (raw_of k32 t32 op y p)) (Ok row)
+root-given op case y p key row o h i q =
+    let factor : row.0 ≡ factor_of k32 (index_at k32 key) = h.factor in (
+      factor ∙ ap (factor_of k32) (i ∙ sym (index_is y)),
+      rw (o, factor, ← q) h.multiplier,
+      refl,
+    )

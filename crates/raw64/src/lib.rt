@@ -2,23 +2,24 @@
 // is used. An answer g stands for g / 2^60.
 #![tactic(auto)]
 
+mod sums;
+
 ghost use Rattle.std.specs.Prelude.{◌≡◌, ◌/◌, ◌≤◌, ◌<◌, ◌^◌, false, T, length, get_or};
 ghost use Rattle.kinds.specs.declared.Op.TheVariants.{Reciprocal};
 ghost use Rattle.kinds.specs.Operation.{is_reciprocal};
-ghost use Rattle.significand.specs.Width.{k64, t64, Significand, Operand};
+ghost use Rattle.significand.specs.Width.{k64, t64, Significand, Operand, laws64};
 ghost use Rattle.significand.specs.Steps.{series_of, raw_of};
 ghost use Rattle.significand.specs.Tables.{tables_length, tables_before, entry_place};
-ghost use Rattle.significand.specs.Call.{is_significand, is_parity, is_lent, entry_asked, raw64_asked};
+ghost use Rattle.significand.specs.Call.{is_lent, entry_asked, raw64_asked};
+ghost use Rattle.raw64.specs.Given.{IsLent, entry_given};
 
 use entries::holds;
 use kinds::{Op, Refusal};
+use raw::{Steps, answered, is_parity, is_significand};
 use series::Reduction;
-use series64::{factor, inverse_root_series, reciprocal_series, reduce, root_series, scaled};
-
-// The least number of 53 bits, and the least that has more.
-const LEAST_SIGNIFICAND: u64 = 0x10_0000_0000_0000;
-
-const SIGNIFICAND_LIMIT: u64 = 0x20_0000_0000_0000;
+use significand::Width;
+use sums::{factor, inverse_root_series, reciprocal_series, reduce, root_series, scaled};
+use tables::Row;
 
 // A table has an entry for each i, of 16 bits; there are four.
 const ENTRIES: usize = 32768;
@@ -30,7 +31,7 @@ pub const TABLES: usize = 4 * ENTRIES;
 pub fn call(op: Op, significand: u64, parity: u8, table: &[u64]) -> Result<u64, Refusal>
     ensures { result ≡ raw64_asked op significand parity table.now }
 {
-    if !is_significand(significand) {
+    if !is_significand::<Raw64>(significand) {
         return Err(Refusal::Significand);
     }
     if !is_parity(op, parity) {
@@ -42,20 +43,6 @@ pub fn call(op: Op, significand: u64, parity: u8, table: &[u64]) -> Result<u64, 
     answer(op, significand, parity as u64, table)
 }
 
-// Question 3.
-fn is_significand(significand: u64) -> bool
-    ensures { result ≡ is_significand k64 t64 significand }
-{
-    (LEAST_SIGNIFICAND <= significand) & (significand < SIGNIFICAND_LIMIT)
-}
-
-// Question 4.
-fn is_parity(op: Op, parity: u8) -> bool
-    ensures { result ≡ is_parity op parity }
-{
-    (parity == 0) | ((parity == 1) & !op.is_reciprocal())
-}
-
 // Question 15; the reciprocal looks at no slice.
 pub fn is_lent(op: Op, entries: usize) -> bool
     ensures { result ≡ is_lent k64 op entries }
@@ -63,40 +50,73 @@ pub fn is_lent(op: Op, entries: usize) -> bool
     op.is_reciprocal() | (entries == TABLES)
 }
 
-// Question 16 and the answer of an operation.
+// Question 16 and the answer of an operation; the reciprocal has a text of its own, without the test of an entry.
 #[inline(always)]
 pub fn answer(op: Op, y: u64, p: u64, table: &[u64]) -> Result<u64, Refusal>
     requires { Operand k64 t64 op y p × (T (is_lent k64 op (length table.now))) }
     ensures { result ≡ entry_asked k64 t64 op y p table.now }
 {
     if op.is_reciprocal() {
-        return Ok(reciprocal(y));
+        return answered::<Raw64>(Op::Reciprocal, y, p, table);
     }
-    rooted(op, y, p, table)
+    answered::<Raw64>(op, y, p, table)
 }
 
-fn reciprocal(y: u64) -> u64
-    requires { Significand k64 t64 y }
-    ensures { result ≡ raw_of k64 t64 Reciprocal y 0 }
-{
-    let r = factor(y);
-    let d = reduce(y, r);
-    let b = reciprocal_series(d.positive, d.magnitude);
-    scaled(r * 0x1000_0000_0000, b)
+// Significands of 53 bits.
+#[derive(Clone, Copy)]
+pub struct Raw64;
+
+impl Width for Raw64 {
+    const K: u32 = 15;
+
+    const T: u32 = 8;
+
+    ghost K = { k64 };
+
+    ghost T = { t64 };
+
+    ghost laws = { laws64 };
 }
 
-// The root or the inverse root of Y, or of 2Y where p is 1.
-fn rooted(op: Op, y: u64, p: u64, table: &[u64]) -> Result<u64, Refusal>
-    requires { Significand k64 t64 y × (p ≤ 1) × (is_reciprocal op ≡ false) × (length table.now ≡ tables_length k64) }
-    ensures { result ≡ entry_asked k64 t64 op y p table.now }
-{
-    let r = factor(y);
-    let m = entry(op, y, p, table);
-    if !holds(op, m, r, p) {
-        return Err(Refusal::Entry);
+impl Steps for Raw64 {
+    type Missing = Refusal;
+
+    ghost IsReady = { IsLent };
+
+    ghost given = { entry_given };
+
+    // R by division, and M from the lent tables, once it is tested; of the reciprocal M is R × 2^44.
+    #[inline(always)]
+    fn row(op: Op, y: u64, p: u64, table: &[u64]) -> Result<Row, Refusal> {
+        let r = factor(y);
+        if op.is_reciprocal() {
+            return Ok(Row(r, r * 0x1000_0000_0000));
+        }
+        let m = entry(op, y, p, table);
+        if !holds(op, m, r, p) {
+            return Err(Refusal::Entry);
+        }
+        Ok(Row(r, m))
     }
-    let b = series_of(op, reduce(y, r));
-    Ok(scaled(m, b))
+
+    #[inline(always)]
+    fn reduced(y: u64, r: u64) -> Reduction {
+        reduce(y, r)
+    }
+
+    #[inline(always)]
+    fn series(op: Op, d: Reduction) -> u64 {
+        match op {
+            Op::Reciprocal => reciprocal_series(d.positive, d.magnitude),
+            Op::Root => root_series(d.positive, d.magnitude),
+            Op::InverseRoot => inverse_root_series(d.positive, d.magnitude),
+        }
+    }
+
+    #[inline(always)]
+    fn scaled(m: u64, b: u64) -> u64 {
+        scaled(m, b)
+    }
 }
 
 // The entry that an operand uses.
@@ -122,16 +142,5 @@ fn tables_before(op: Op) -> usize
         Op::Reciprocal => 0,
         Op::Root => 0,
         Op::InverseRoot => 2,
-    }
-}
-
-fn series_of(op: Op, d: Reduction) -> u64
-    requires { d.magnitude < 2 ^ 45 }
-    ensures { (result ≡ series_of k64 op d.positive d.magnitude) × (result < 2 ^ 61) }
-{
-    match op {
-        Op::Reciprocal => reciprocal_series(d.positive, d.magnitude),
-        Op::Root => root_series(d.positive, d.magnitude),
-        Op::InverseRoot => inverse_root_series(d.positive, d.magnitude),
     }
 }

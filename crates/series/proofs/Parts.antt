@@ -1,17 +1,14 @@
 -- Step 2 as the code works it, in 64-bit signed numbers. Assumes nothing.
-use mathlib.Core.Path.{◌≡◌, refl, sym, ap, ◌∙◌}
-use mathlib.Core.Bool.{true, false, true≢false}
+use mathlib.Core.Path.{◌≡◌, refl, ap, ◌∙◌}
 use mathlib.Core.List.{[], ◌∷◌}
-use Prim.Native.Nat.{ℕ, ◌+◌, ◌*◌, ◌/◌, ◌<◌, zero-le}
+use Prim.Native.Nat.{ℕ, ◌*◌, ◌/◌, zero-le}
 use native.Mathlib.Omega.{arith}
 use borrow.Author.Tests.{le-leb}
-use lib.Dec.{T}
 use lib.IntN.{ℤ, pos, negsuc, nat_abs, ◌-ℤ◌}
 use lib.Signed.{non_neg, le_z}
 use mir.Syntax.{w64}
 use mir.Val.{Fits, SFits, to_z, of_z}
-use mir.ValLaws.{to_z-of_z}
-use Rattle.numbers.proofs.Signed.{X, given, lit, ◌⊟◌, Within, fits, held, bounded}
+use Rattle.numbers.proofs.Signed.{X, given, lit, ◌⊟◌, Within, fits, held}
 use Rattle.significand.specs.Width.{k32, t32, Significand}
 use Rattle.significand.specs.Steps.{factor_of, difference_of, sign_of, reduced_of}
 use Rattle.significand.proofs.Sizes.{reduced-small}
@@ -22,49 +19,6 @@ use Rattle.series.proofs.Bounds.{reduced-product}
 pub sign-test : (z : ℤ) → le_z (pos 0) z ≡ non_neg z
 sign-test (pos n) = le-leb 0 n zero-le
 sign-test (negsuc n) = refl
-
-passed : (z : ℤ) → le_z (pos 0) z ≡ true → T (non_neg z)
-passed (pos n) e = tt
-passed (negsuc n) e = absurd (true≢false (sym e))
-
-failed : (z : ℤ) (n : ℕ) → le_z (pos 0) z ≡ false → pos n -ℤ z ≡ pos (n + nat_abs z)
-failed (pos m) n e = absurd (true≢false (sym (le-leb 0 m zero-le) ∙ e))
-failed (negsuc m) n e = refl
-
--- the magnitude of d by its sign: d itself, or a number n less d, where n is 0
-module _ (d : ℤ) (small : nat_abs d < 4611686018427387904) where
-  abbrev held-d : ℤ
-  held-d = to_z w64 (of_z w64 d)
-
-  back : held-d ≡ d
-  back = held (d ∷ []) (4611686018427387904 ∷ []) (omega arith, tt) (given 0) tt
-
-  pub same_sign : le_z (pos 0) held-d ≡ true → T (non_neg held-d)
-  same_sign = passed held-d
-
-  pub same-fits : Fits w64 (nat_abs held-d)
-  same-fits = rw back (record { fits = omega arith })
-
-  module _ (n : ℕ) (few : n < 4294967296) (e : le_z (pos 0) held-d ≡ false) where
-    turned : pos n -ℤ held-d ≡ pos (n + nat_abs d)
-    turned = failed held-d n e ∙ ap (λ (z : ℤ). pos (n + nat_abs z)) back
-
-    pub turned-fits : SFits w64 (pos n -ℤ held-d)
-    turned-fits = rw turned (record { sfits = omega arith })
-
-    held-turned : to_z w64 (of_z w64 (pos n -ℤ held-d)) ≡ pos (n + nat_abs d)
-    held-turned = to_z-of_z w64 (pos n -ℤ held-d) turned-fits ∙ turned
-
-    pub turned-sign : T (non_neg (to_z w64 (of_z w64 (pos n -ℤ held-d))))
-    turned-sign = rw held-turned tt
-
-    pub turned-unsigned : Fits w64 (nat_abs (to_z w64 (of_z w64 (pos n -ℤ held-d))))
-    turned-unsigned = rw held-turned (record { fits = omega arith })
-
-  pub turned-is : le_z (pos 0) held-d ≡ false → nat_abs (to_z w64 (of_z w64 (pos 0 -ℤ held-d))) ≡ nat_abs d
-  turned-is e =
-      let none : 0 + nat_abs d ≡ nat_abs d = omega arith in
-      ap nat_abs (held-turned 0 (omega arith) e) ∙ none
 
 -- d, for a significand y and its R
 module _ (y r : ℕ) (Y : Significand k32 t32 y) (e : r ≡ factor_of k32 (y / 65536)) where
@@ -88,9 +42,6 @@ module _ (y r : ℕ) (Y : Significand k32 t32 y) (e : r ≡ factor_of k32 (y / 6
 
   difference-is : to_z w64 (of_z w64 (to_z w64 (y * r) -ℤ pos 2147483648)) ≡ difference_of k32 t32 u
   difference-is = held (pos u ∷ []) (8589934592 ∷ []) product-within difference tt
-
-  pub difference-small : nat_abs (to_z w64 (of_z w64 (to_z w64 (y * r) -ℤ pos 2147483648))) < 4611686018427387904
-  difference-small = omega (arith, bounded (pos u ∷ []) (8589934592 ∷ []) product-within difference tt)
 
   -- step 2
   pub reduced-is : (m : ℕ) → m ≡ nat_abs (to_z w64 (of_z w64 (to_z w64 (y * r) -ℤ pos 2147483648)))

@@ -42,12 +42,11 @@ crossed k a =
 pub terms-are : (k : ℕ) → k ≤ 15 → (positive : Bool) (a square cross cube : ℕ) (s : ℤ) → a < 2 ^ (3 * k)
     → square ≡ digit2 k a * digit2 k a
     → s ≡ unit positive
-    → cross ≡ digit2 k a * (a / 2 ^ k + a / 2 ^ k % 2 ^ k) → cross < 2 ^ (3 * k + 1)
-    → cube ≡ digit2 k a * (square / 2 ^ k) → cube < 2 ^ (3 * k + 1)
+    → cross ≡ digit2 k a * (a / 2 ^ k + a / 2 ^ k % 2 ^ k) → cross < 2 ^ 46
+    → cube ≡ digit2 k a * (square / 2 ^ k) → cube < 2 ^ 46
     → TermsOf k positive a (record { sign = to_z w64 (of_z w64 s); linear = to_z w64 a; cross = to_z w64 cross; cube = to_z w64 cube })
 terms-are k h positive a square cross cube s small es e ec hc eu hu =
     let three : 2 ^ (3 * k) ≤ 35184372088832 = pow_mono {i = 3 * k} {j = 45} (omega arith) in
-    let more : 2 ^ (3 * k + 1) ≤ 70368744177664 = pow_mono {i = 3 * k + 1} {j = 46} (omega arith) in
     record {
       sign = unit-back positive s e;
       linear = to_z_pos w64 a (omega arith);

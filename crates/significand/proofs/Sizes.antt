@@ -11,7 +11,7 @@ use Rattle.significand.proofs.Multiplier.{multiplies}
 use Rattle.significand.proofs.Numerals.{index_is}
 
 -- M is at most 2^(4k + 1)
-multiplier-upto : (k r p : ℕ) → 7 ≤ k → p ≤ 1 → 2 ^ k ≤ r → r ≤ 2 ^ (k + 1) → (op : Op) → multiplier_of k op r p ≤ 2 ^ (4 * k + 1)
+pub multiplier-upto : (k r p : ℕ) → 7 ≤ k → p ≤ 1 → 2 ^ k ≤ r → r ≤ 2 ^ (k + 1) → (op : Op) → multiplier_of k op r p ≤ 2 ^ (4 * k + 1)
 multiplier-upto k r p h e least most op =
     multiplier-most k r p (multiplier_of k op r p) h e least most op (multiplies k r p (omega arith) e least most op)
 

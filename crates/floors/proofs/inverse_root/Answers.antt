@@ -4,4 +4,4 @@ use mathlib.Core.Path.{refl}
 use Rattle.floors.proofs.inverse_root.Goals as goal
 
 pub returns : goal.returns
-returns c = inverse-floor c.args.y c.args.g c.requires.0 c.args.p c.requires.1 c.requires.3 _ _ _ _ refl c.wrapping_add_u64-next.ensures.value c.is_above-above.ensures c.is_above-next_above.ensures
+returns c = inverse-floor c.args.y c.args.g c.requires.0 c.args.p c.requires.1 c.requires.3 _ _ _ _ refl refl c.is_above-above.ensures c.is_above-next_above.ensures

@@ -1,0 +1,6 @@
+-- `Raw64` meets the contract of step 2. Assumes nothing.
+use Rattle.raw64.proofs.Answers.{index-factor}
+use Rattle.raw64.proofs.Raw64Steps.reduced.Goals as goal
+
+pub reduce-requires : goal.reduce-requires
+reduce-requires c = (c.requires.0, index-factor c.args.y c.args.r c.requires.1)
