@@ -2,13 +2,14 @@
 // the start, the entry is M, so nothing is said of the starts; near ones only save steps.
 #![tactic(auto)]
 
-ghost use Rattle.std.specs.Prelude.{◌≡◌, ◌^◌, ◌<◌, ◌≤◌, length, slice_index, slice_set};
+ghost use Rattle.std.specs.Prelude.{◌≡◌, ◌+◌, ◌^◌, ◌<◌, ◌≤◌, length, slice_index, slice_set};
+ghost use Rattle.kinds.specs.Operation.{op_of};
 ghost use Rattle.significand.specs.Width.{k64};
 ghost use Rattle.significand.specs.Steps.{factor_of, multiplier_of};
 ghost use Rattle.significand.specs.Tables.{tables, tables_length};
 ghost use Rattle.significand.specs.Call.{filling_asked, slice_after};
 
-use entries::{MOST, at_most};
+use entries::{MOST, Multiplier};
 use kinds::{Op, Refusal};
 
 // The entries of one table, and of all four.
@@ -52,10 +53,13 @@ fn put_entry(table: &mut [u64], n: usize)
     ensures { table.new ≡ slice_set table.old n (slice_index (tables k64) n) }
 {
     let number = n / TABLE;
-    let op = Op::of((number / 2) as u8 + 2);
-    let r = factor((FIRST + n % TABLE) as u64);
-    let near = start(table, n, r);
-    table[n] = settle(op, near, r, (number % 2) as u64);
+    let m = Multiplier {
+        op: op_of(number / 2),
+        factor: factor((FIRST + n % TABLE) as u64),
+        parity: (number % 2) as u64,
+    };
+    let near = start(table, n, m.factor);
+    table[n] = settle(m, near);
 }
 
 // R of an i.
@@ -66,34 +70,44 @@ fn factor(i: u64) -> u64
     0x8000_0000 / i
 }
 
-// M, from any start.
-fn settle(op: Op, near: u64, r: u64, p: u64) -> u64
-    requires { (2 ^ 15 ≤ r) × (r ≤ 2 ^ 16) × (p ≤ 1) }
-    ensures { result ≡ multiplier_of k64 op r p }
+// The first two tables are the root's.
+fn op_of(pair: usize) -> Op
+    requires { pair < 2 }
+    ensures { result ≡ op_of (pair + 2) }
 {
-    let below = down(op, near.min(MOST), r, p);
-    up(op, below, r, p)
+    match pair {
+        0 => Op::Root,
+        _ => Op::InverseRoot,
+    }
 }
 
-// Down to a number that is at most M.
-fn down(op: Op, from: u64, r: u64, p: u64) -> u64
-    requires { (from ≤ 2 ^ 61) × (2 ^ 15 ≤ r) × (r ≤ 2 ^ 16) × (p ≤ 1) }
-    ensures { result ≤ multiplier_of k64 op r p }
+// M, from any start.
+fn settle(m: Multiplier, near: u64) -> u64
+    ensures { result ≡ multiplier_of k64 m.op m.factor m.parity }
+{
+    let below = down(m, near.min(MOST));
+    up(m, below)
+}
+
+// Down to a number that is at most M. A search, whose end is a measure: no `for` says it plainer.
+fn down(m: Multiplier, from: u64) -> u64
+    requires { from ≤ 2 ^ 61 }
+    ensures { result ≤ multiplier_of k64 m.op m.factor m.parity }
 {
     let mut w = from;
-    while !at_most(op, w, r, p) {
+    while !m.at_most(w) {
         w -= 1;
     }
     w
 }
 
 // Up to M.
-fn up(op: Op, from: u64, r: u64, p: u64) -> u64
-    requires { (from ≤ multiplier_of k64 op r p) × (2 ^ 15 ≤ r) × (r ≤ 2 ^ 16) × (p ≤ 1) }
-    ensures { result ≡ multiplier_of k64 op r p }
+fn up(m: Multiplier, from: u64) -> u64
+    requires { from ≤ multiplier_of k64 m.op m.factor m.parity }
+    ensures { result ≡ multiplier_of k64 m.op m.factor m.parity }
 {
     let mut w = from;
-    while at_most(op, w + 1, r, p) {
+    while m.at_most(w + 1) {
         w += 1;
     }
     w

@@ -13,7 +13,7 @@ ghost use Rattle.significand.specs.Tables.{tables_length, tables_before, entry_p
 ghost use Rattle.significand.specs.Call.{is_lent, entry_asked, raw64_asked};
 ghost use Rattle.raw64.specs.Given.{IsLent, entry_given};
 
-use entries::holds;
+use entries::Multiplier;
 use kinds::{Op, Refusal};
 use raw::{Steps, answered, is_parity, is_significand};
 use series::Reduction;
@@ -93,7 +93,12 @@ impl Steps for Raw64 {
             return Ok(Row(r, r * 0x1000_0000_0000));
         }
         let m = entry(op, y, p, table);
-        if !holds(op, m, r, p) {
+        let sought = Multiplier {
+            op,
+            factor: r,
+            parity: p,
+        };
+        if !sought.holds(m) {
             return Err(Refusal::Entry);
         }
         Ok(Row(r, m))

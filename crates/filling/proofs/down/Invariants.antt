@@ -2,8 +2,8 @@
 use Rattle.std.proofs.Common.{◌^◌, ◌≤◌}
 use Rattle.filling.proofs.down.Given as goal
 
-abbrev pub invariant-loop-op : goal.invariant-loop-op
-invariant-loop-op l = l.w ≤ 2 ^ 61
+abbrev pub invariant-loop-m : goal.invariant-loop-m
+invariant-loop-m l = l.w ≤ 2 ^ 61
 
-abbrev pub decreases-loop-op : goal.decreases-loop-op
-decreases-loop-op l = l.w
+abbrev pub decreases-loop-m : goal.decreases-loop-m
+decreases-loop-m l = l.w

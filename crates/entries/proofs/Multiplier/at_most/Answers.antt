@@ -1,6 +1,6 @@
--- `entries::at_most` meets its contract: a law for each operation. Assumes nothing.
+-- `entries::Multiplier::at_most` meets its contract: a law for each operation. Assumes nothing.
 use Rattle.entries.proofs.Entries.{reciprocal-at-most, root-at-most, inverse-root-at-most}
-use Rattle.entries.proofs.at_most.Goals as goal
+use Rattle.entries.proofs.Multiplier.at_most.Goals as goal
 
 pub returns-in-Reciprocal : goal.returns-in-Reciprocal
 returns-in-Reciprocal c = search reciprocal-at-most
