@@ -18,7 +18,8 @@ use significand::Width;
 use std::convert::Infallible;
 use tables::Row;
 
-// What each width has of its own of the five steps.
+// What each width has of its own of the five steps: the row, because the tables lie in the code or are lent; the reduction, the sums and the
+// last product, because at k = 15 they outgrow a word, and what they need there would be slower at k = 7.
 pub trait Steps: Width {
     // What stands in the way of an answer.
     type Missing: Copy;
@@ -50,7 +51,8 @@ pub trait Steps: Width {
         ensures { (result ≡ m * b / 2 ^ (4 * Self.K)) × (result ≤ 2 ^ (4 * Self.K + 2)) };
 }
 
-// The answer of an operation at every width.
+// The answer of an operation at every width. A significand and a parity are plain numbers with their facts in the clauses, as callers have
+// them: a type for both would be made before each call and read in it, and is no plainer.
 #[inline(always)]
 pub fn answered<W: Steps>(op: Op, y: u64, p: u64, tables: &[u64]) -> Result<u64, W::Missing>
     requires { Operand W.K W.T op y p × W.IsReady op tables.now }
