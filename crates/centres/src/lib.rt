@@ -34,9 +34,9 @@ pub struct Offsets {
 // The words of a centre's coordinates.
 #[derive(Clone, Copy)]
 pub struct Words {
-    pub x: u64,
-    pub y: u64,
-    pub z: u64,
+    pub x: u32,
+    pub y: u32,
+    pub z: u32,
 }
 
 // A signed number with its square.
@@ -117,8 +117,8 @@ fn centre(mode: Mode, point: Point<'_>, p: Prepared) -> Words
     let o = offsets_of(mode, p, step, point.map.trailer.radius);
     let height = point.map.height_word(point.place());
     Words {
-        x: wrapping_add_signed((point.column as u64) * step, o.x),
-        y: wrapping_add_signed((point.row as u64) * step, o.y),
+        x: wrapping_add_signed((point.column as u64 * step) as u32, o.x),
+        y: wrapping_add_signed((point.row as u64 * step) as u32, o.y),
         z: wrapping_add_signed(height, o.z),
     }
 }

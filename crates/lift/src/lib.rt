@@ -14,8 +14,8 @@ use nine::lift;
 use words::{Signed, put_word, signed_of, word_at, wrapping_add_signed};
 
 // How far the coordinate with this word is from a place.
-fn away(word: u64, place: u64) -> Signed
-    requires { (word < 4294967296) × (place < 2147483648) × (nat_abs (signed word -ℤ pos place) ≤ radius_most) }
+fn away(word: u32, place: u64) -> Signed
+    requires { (place < 2147483648) × (nat_abs (signed word -ℤ pos place) ≤ radius_most) }
     ensures { (result ≡ parts_of (signed word -ℤ pos place)) × (result.magnitude ≤ radius_most) }
 {
     let back = Signed {
@@ -26,15 +26,15 @@ fn away(word: u64, place: u64) -> Signed
 }
 
 // The word of z, lifted, of the centre with these words.
-fn lifted_word(point: Point<'_>, x: u64, y: u64, z: u64) -> u64
-    requires words { (x < 4294967296) × (y < 4294967296) × (z < 4294967296) }
-    requires reaches { Reaches point.map.trailer.step point.column point.row (centre_of_words x y z) }
+fn lifted_word(point: Point<'_>, x: u32, y: u32, z: u32) -> u32
+    requires { Reaches point.map.trailer.step point.column point.row (centre_of_words x y z) }
     ensures { result ≡ word_of (lifted_at point.entry (centre_of_words x y z)).z }
 {
     let step = point.map.trailer.step;
     let along = away(x, (point.column as u64) * step);
     let down = away(y, (point.row as u64) * step);
-    unbiased(lift(point, along, down, biased(z)))
+    let raised = lift(point, along, down, u64::from(biased(z)));
+    unbiased(raised as u32)
 }
 
 // Lifts the record that stands from `at` on.

@@ -22,5 +22,7 @@ module _ (m : List ℕ) (n i u a : ℕ) (hs : Heights m n) (hi : i < n) (eu : u 
       let h : nat_abs (signed u) ≤ height_most = rw eu (hs.small i hi) in
       sym (ap signed (sym eu) ∙ signed-biased height_most u (lit< tt) hu (within-biased height_most u (lit< tt) hu h) ∙ ap (λ (x : ℕ). sub_ℕ x height_most) (sym ea))
 
-pub unbiased-is : (u : ℕ) → u < 4294967296 → (u + 4294967296 - height_most) % 4294967296 ≡ word_of (sub_ℕ u height_most)
-unbiased-is u h = sym (diff-word u height_most h (omega arith))
+pub unbiased-is : (u : ℕ) → u < 4294967296 → (u + (4294967296 - height_most)) % 4294967296 ≡ word_of (sub_ℕ u height_most)
+unbiased-is u h =
+    let e : (u + (4294967296 - height_most)) % 4294967296 ≡ (u + 4294967296 - height_most) % 4294967296 = omega arith in
+    e ∙ sym (diff-word u height_most h (omega arith))

@@ -1,20 +1,8 @@
 -- The heights of a map by fours of its bytes. Assumes nothing.
-use Rattle.std.proofs.Common.{◌≡◌, ap, ◌∙◌, ℕ, zero, suc, ◌+◌, ◌*◌, ◌<◌, ◌≤◌, List, [], length, take, drop, get_or, arith, le-ltb, lt-ltb, to_z, w32}
+use Rattle.std.proofs.Common.{◌≡◌, ap, ◌∙◌, ℕ, zero, suc, ◌+◌, ◌*◌, ◌<◌, ◌≤◌, List, [], length, take, drop, get_or, arith}
 use Rattle.std.specs.Simd.{first_chunks}
 use Rattle.std.proofs.lemmas.List.{get_or-drop, get_or-take, length-take}
-use mathlib.Core.Logic.{by_cases}
-use native.Mathlib.Decide.{dec_lt}
 use Rattle.words.specs.Word.{word_at}
-use Rattle.words.specs.Signed.{signed}
-
-pub signed-is : (u : ℕ) → u < 4294967296 → to_z w32 u ≡ signed u
-unfolding signed
-signed-is u h =
-    by_cases (dec_lt u 2147483648)
-    (λ l. simp (lt-ltb u 2147483648 l))
-    (λ l.
-    let k : 2147483648 ≤ u = omega arith in
-    simp (le-ltb u 2147483648 k, lt-ltb u 4294967296 h))
 
 -- the four bytes at place i are the word from byte 4·i on
 pub four-is : (s : List ℕ) (k i : ℕ) → i < k → word_at (get_or (first_chunks 4 k s) i []) 0 ≡ word_at s (4 * i)

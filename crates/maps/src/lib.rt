@@ -20,9 +20,6 @@ use words::word_at;
 // A height is from −50,000 to 50,000 micrometres.
 const HEIGHT_MOST: u32 = 50000;
 
-// So that a height with this bias is not negative.
-const BIAS: u64 = 50000;
-
 // A map whose questions are answered "yes": its bytes, and the fields of its trailer.
 #[derive(Clone, Copy)]
 pub struct Map<'a> {
@@ -61,9 +58,9 @@ impl<'a> Map<'a> {
     }
 
     // The word of the height at place i, counted row by row.
-    pub fn height_word(self, i: usize) -> u64
+    pub fn height_word(self, i: usize) -> u32
         requires { i < self.trailer.width * self.trailer.depth }
-        ensures { (result ≡ word_at self.entry.bytes.now (4 * i)) × (result < 4294967296) }
+        ensures { result ≡ word_at self.entry.bytes.now (4 * i) }
     {
         word_at(self.bytes, 4 * i)
     }
@@ -73,7 +70,7 @@ impl<'a> Map<'a> {
         requires { i < self.trailer.width * self.trailer.depth }
         ensures { (sub_ℕ result height_most ≡ signed (word_at self.entry.bytes.now (4 * i))) × (result ≤ difference_most) }
     {
-        biased(self.height_word(i))
+        u64::from(biased(self.height_word(i)))
     }
 }
 
@@ -115,17 +112,15 @@ fn height_holds(bytes: &[u8; 4]) -> bool
 }
 
 // A height's word with a bias, so that heights are from 0 to 100,000.
-pub fn biased(u: u64) -> u64
-    requires { u < 4294967296 }
+pub fn biased(u: u32) -> u32
     ensures { result ≡ (u + height_most) % 4294967296 }
 {
-    (u + BIAS) % 4294967296
+    u.wrapping_add(HEIGHT_MOST)
 }
 
 // The word of a height with the bias.
-pub fn unbiased(u: u64) -> u64
-    requires { u < 4294967296 }
+pub fn unbiased(u: u32) -> u32
     ensures { result ≡ word_of (sub_ℕ u height_most) }
 {
-    (u + 4294967296 - BIAS) % 4294967296
+    u.wrapping_sub(HEIGHT_MOST)
 }

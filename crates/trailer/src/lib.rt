@@ -94,9 +94,9 @@ fn read_radius(bytes: &[u8], at: usize, wide: bool) -> u64
     ensures { RadiusRead wide bytes.now at result }
 {
     if wide {
-        word_at(bytes, at)
+        u64::from(word_at(bytes, at))
     } else {
-        half_at(bytes, at)
+        u64::from(half_at(bytes, at))
     }
 }
 
@@ -104,7 +104,11 @@ fn read_rounding(bytes: &[u8], at: usize, rounded: bool) -> u64
     requires { at + rounding_size rounded ≤ length bytes.now }
     ensures { RoundingRead rounded bytes.now at result }
 {
-    if rounded { half_at(bytes, at) } else { 0 }
+    if rounded {
+        u64::from(half_at(bytes, at))
+    } else {
+        0
+    }
 }
 
 // The fields of the trailer of a kind whose first byte stands at `at`.
@@ -117,10 +121,10 @@ fn read(bytes: &[u8], at: usize, kind: Kind) -> Fields
     let radius = read_radius(bytes, at + 14, layout.wide);
     let rounding = read_rounding(bytes, at + (14 + radius_size(layout.wide)), layout.rounded);
     Fields {
-        distance: word_at(bytes, at + 4),
+        distance: u64::from(word_at(bytes, at + 4)),
         width: half_at(bytes, at + 8) as usize,
         depth: half_at(bytes, at + 10) as usize,
-        step: half_at(bytes, at + 12),
+        step: u64::from(half_at(bytes, at + 12)),
         radius,
         rounding,
     }

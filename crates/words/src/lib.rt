@@ -2,26 +2,25 @@
 #![tactic(auto)]
 
 ghost use Rattle.std.specs.Prelude.{◌≡◌, ◌+◌, ◌≤◌, ◌<◌, length, ◌+ℤ◌};
-ghost use Rattle.std.proofs.Math.IntN.{sub_ℕ};
-ghost use Rattle.words.specs.Word.{half_at, word_at, half_bytes, word_bytes, reads_at};
+ghost use Rattle.words.specs.Word.{half_at, word_at, word_bytes, reads_at};
 ghost use Rattle.words.specs.Splice.{splice};
 ghost use Rattle.words.specs.Signed.{signed, word_of, with_sign};
 ghost use Rattle.words.specs.Parts.{parts_of};
 
 // The number of the two bytes from `at` on, the lower first.
-pub fn half_at(s: &[u8], at: usize) -> u64
+pub fn half_at(s: &[u8], at: usize) -> u16
     requires { at + 2 ≤ length s.now }
-    ensures { (result ≡ half_at s.now at) × (result < 65536) }
+    ensures { result ≡ half_at s.now at }
 {
-    u64::from(u16::from_le_bytes([s[at], s[at + 1]]))
+    u16::from_le_bytes([s[at], s[at + 1]])
 }
 
 // The number of the four bytes from `at` on, the lowest first.
-pub fn word_at(s: &[u8], at: usize) -> u64
+pub fn word_at(s: &[u8], at: usize) -> u32
     requires { at + 4 ≤ length s.now }
-    ensures { (result ≡ word_at s.now at) × (result < 4294967296) }
+    ensures { result ≡ word_at s.now at }
 {
-    u64::from(u32::from_le_bytes([s[at], s[at + 1], s[at + 2], s[at + 3]]))
+    u32::from_le_bytes([s[at], s[at + 1], s[at + 2], s[at + 3]])
 }
 
 // Whether the four bytes from `at` on are those of a name.
@@ -32,7 +31,7 @@ pub fn reads_at(s: &[u8], at: usize, name: [u8; 4]) -> bool
     [s[at], s[at + 1], s[at + 2], s[at + 3]] == name
 }
 
-// Puts so many bytes over those from `at` on.
+// Puts so many bytes over those from `at` on: letters, or the bytes of a number, the lowest first.
 pub fn put<const N: usize>(out: &mut [u8], at: usize, bytes: [u8; N])
     requires { at + N ≤ length out.old }
     ensures { out.new ≡ splice at bytes.entry out.old }
@@ -40,28 +39,13 @@ pub fn put<const N: usize>(out: &mut [u8], at: usize, bytes: [u8; N])
     out[at..at + N].copy_from_slice(&bytes);
 }
 
-// The same of four, until its last callers have moved.
-pub fn put_four(out: &mut [u8], at: usize, b: [u8; 4])
+// The same of a word's four bytes.
+#[tactic(auto, unfolding(crate::specs::Word::word_bytes))]
+pub fn put_word(out: &mut [u8], at: usize, word: u32)
     requires { at + 4 ≤ length out.old }
-    ensures { out.new ≡ splice at b out.old }
+    ensures { out.new ≡ splice at (word_bytes word) out.old }
 {
-    put(out, at, b);
-}
-
-// Puts the two bytes of a number over those from `at` on, the lower first.
-pub fn put_half(out: &mut [u8], at: usize, x: u64)
-    requires { at + 2 ≤ length out.old }
-    ensures { out.new ≡ splice at (half_bytes x) out.old }
-{
-    put(out, at, ((x % 65536) as u16).to_le_bytes());
-}
-
-// Puts the four bytes of a number over those from `at` on, the lowest first.
-pub fn put_word(out: &mut [u8], at: usize, x: u64)
-    requires { at + 4 ≤ length out.old }
-    ensures { out.new ≡ splice at (word_bytes x) out.old }
-{
-    put(out, at, ((x % 4294967296) as u32).to_le_bytes());
+    put(out, at, word.to_le_bytes());
 }
 
 // A signed number by its sign and its magnitude; 0 is not negative.
@@ -72,19 +56,17 @@ pub struct Signed {
 }
 
 // The signed number that a word stands for.
-pub fn signed_of(word: u64) -> Signed
-    requires { word < 4294967296 }
+pub fn signed_of(word: u32) -> Signed
     ensures { (result ≡ parts_of (signed word)) × (result.magnitude ≤ 2147483648) }
 {
     parts_of(i32_of(word))
 }
 
 // The same as a number of the language.
-pub fn i32_of(word: u64) -> i32
-    requires { word < 4294967296 }
+pub fn i32_of(word: u32) -> i32
     ensures { result ≡ signed word }
 {
-    (word as u32).cast_signed()
+    word.cast_signed()
 }
 
 // The sign and the magnitude of a number of the language.
@@ -97,33 +79,15 @@ pub fn parts_of(x: i32) -> Signed
     }
 }
 
-// a less b.
-pub fn difference(a: u64, b: u64) -> Signed
-    ensures { result ≡ parts_of (sub_ℕ a b) }
-{
-    if b <= a {
-        Signed {
-            negative: false,
-            magnitude: a - b,
-        }
-    } else {
-        Signed {
-            negative: true,
-            magnitude: b - a,
-        }
-    }
-}
-
 // The word of a word's number with a signed number added.
-pub fn wrapping_add_signed(u: u64, s: Signed) -> u64
-    requires { (u < 4294967296) × (s.magnitude < 2147483648) }
+pub fn wrapping_add_signed(u: u32, s: Signed) -> u32
+    requires { s.magnitude < 2147483648 }
     ensures { result ≡ word_of (signed u +ℤ with_sign s.negative s.magnitude) }
 {
-    let u = u as u32;
     let m = s.magnitude as u32;
     if s.negative {
-        u64::from(u.wrapping_sub(m))
+        u.wrapping_sub(m)
     } else {
-        u64::from(u.wrapping_add(m))
+        u.wrapping_add(m)
     }
 }

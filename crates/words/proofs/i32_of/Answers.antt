@@ -3,4 +3,4 @@ use Rattle.words.proofs.Bits.{cast-kept}
 use Rattle.words.proofs.i32_of.Goals as goal
 
 pub returns : goal.returns
-returns c = cast-kept _ _ c.requires c.cast_signed.ensures
+returns c = cast-kept _ _ c.ranges.word.fits c.cast_signed.ensures

@@ -1,10 +1,9 @@
 -- `words::wrapping_add_signed` meets its contract: a law for each sign. Assumes nothing.
-use Rattle.std.proofs.Common.{◌∙◌}
 use Rattle.words.proofs.Differences.{wrapped-less, wrapped-more}
 use Rattle.words.proofs.wrapping_add_signed.Goals as goal
 
 pub returns-then-s : goal.returns-then-s
-returns-then-s c = c.from.ensures ∙ wrapped-less _ _ _ c.requires.0 c.requires.1 c.if-s.true
+returns-then-s c = wrapped-less _ _ _ c.ranges.u.fits c.requires c.if-s.true
 
 pub returns-else-s : goal.returns-else-s
-returns-else-s c = c.from-else-s.ensures ∙ wrapped-more _ _ _ c.requires.0 c.requires.1 c.if-s.false
+returns-else-s c = wrapped-more _ _ _ c.ranges.u.fits c.requires c.if-s.false
