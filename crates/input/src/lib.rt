@@ -19,6 +19,7 @@ pub fn read_full<R: Read>(input: &mut R, bytes: &mut [u8]) -> Result<usize>
     ensures end { IfOk result (λ n. n < length bytes.new → IsAtEnd (R.remaining input.new)) }
     ensures err { OnErr result ((n : ℕ) × (n ≤ length bytes.new) × Consumes (R.remaining input.old) (R.remaining input.new) (take n bytes.new)) }
 {
+    // No `for`: a turn takes as many bytes as a read gives, and the promise names how many they are.
     let mut filled = 0;
     while filled < bytes.len() {
         let more = read_again(input, &mut bytes[filled..])?;
@@ -48,7 +49,7 @@ pub fn digested(digest: u64, number: u64) -> u64
     (257 * (digest % PRIME) + number % PRIME + 1) % PRIME
 }
 
-// One read. It is tried again while a signal interrupts it.
+// One read. It is tried again while a signal interrupts it; a loop with no end would have to be allowed to wait, hence the count.
 fn read_again<R: Read>(input: &mut R, bytes: &mut [u8]) -> Result<usize>
     ensures bound { ReadsAtMost result bytes.new }
     ensures front { IfOk result (λ n. Consumes (R.remaining input.old) (R.remaining input.new) (take n bytes.new)) }

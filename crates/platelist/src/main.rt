@@ -55,6 +55,7 @@ fn write_full<W: Write>(out: &mut W, bytes: &[u8]) -> Result<()>
     ensures ok { OnOk result (Appends (W.contents out.old) (W.contents out.new) bytes.now) }
     ensures err { OnErr result ((n : ℕ) × Appends (W.contents out.old) (W.contents out.new) (take n bytes.now)) }
 {
+    // No `for`: a turn takes as many bytes as a write takes, and the promise names how many they are.
     let mut written = 0;
     while written < bytes.len() {
         let more = write_again(out, &bytes[written..])?;
@@ -66,7 +67,8 @@ fn write_full<W: Write>(out: &mut W, bytes: &[u8]) -> Result<()>
     Ok(())
 }
 
-// One write. It is tried again while a signal interrupts it.
+// One write. It is tried again while a signal interrupts it. The promise is about what a writer holds, and a read's about what a reader
+// has left: so each has its own text.
 fn write_again<W: Write>(out: &mut W, bytes: &[u8]) -> Result<usize>
     ensures bound { WritesAtMost result bytes.now }
     ensures some { IfOk result (λ n. Appends (W.contents out.old) (W.contents out.new) (take n bytes.now)) }

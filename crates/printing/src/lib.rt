@@ -26,7 +26,7 @@ pub fn put_records(out: &mut [u8], start: usize, list: &[u8], columns: usize, co
     at
 }
 
-// Puts a text from `at` on; the place behind it.
+// Puts a text from `at` on; the place behind it. The buffer is lent and there is no heap, so the place goes from text to text.
 pub fn put(out: &mut [u8], at: usize, text: &str) -> usize
     requires { at + length text.now ≤ length out.old }
     ensures { PutAt at (length text.now) text.now out.old result out.new }
