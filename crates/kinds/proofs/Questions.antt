@@ -4,9 +4,6 @@ use mathlib.Core.Bool.{Bool, true, false, ◌&&◌, true≢false}
 use Prim.Native.Nat.{ℕ, zero, suc, ◌≤◌}
 use native.Mathlib.Omega.{arith}
 use lib.Dec.{T}
-use borrow.Author.Tests.{ne_eqb}
-use Rattle.kinds.specs.declared.Op.TheVariants.{Reciprocal, Root, InverseRoot}
-use Rattle.kinds.specs.Operation.{op_of}
 use Rattle.kinds.specs.declared.Mode.{Mode}
 use Rattle.kinds.specs.declared.Mode.TheVariants.{Nearest, Up, Down, TowardZero}
 use Rattle.kinds.specs.Rounding.{mode_of, number_of}
@@ -92,29 +89,6 @@ pub then_asked : (t : Bool) (n rest c : ℕ) → then_ask (ask t (suc n) rest) c
 unfolding ask then_ask
 then_asked true n rest c = refl
 then_asked false n rest c = refl
-
--- ---- the case of a number, by the tests that found it
-
-pub op-first : (n : ℕ) → n ≡ 1 → Reciprocal ≡ op_of n
-op-first n e = rw e
-
-pub op-second : (n : ℕ) → n ≡ 2 → Root ≡ op_of n
-op-second n e = rw e
-
-pub op-last : (n : ℕ) → (n ≡ 1 → ⊥) → (n ≡ 2 → ⊥) → InverseRoot ≡ op_of n
-op-last n a b = rw (ne_eqb n 1 a, ne_eqb n 2 b)
-
-pub mode-first : (n : ℕ) → n ≡ 0 → Nearest ≡ mode_of n
-mode-first n e = rw e
-
-pub mode-second : (n : ℕ) → n ≡ 1 → Up ≡ mode_of n
-mode-second n e = rw e
-
-pub mode-third : (n : ℕ) → n ≡ 2 → Down ≡ mode_of n
-mode-third n e = rw e
-
-pub mode-last : (n : ℕ) → (n ≡ 0 → ⊥) → (n ≡ 1 → ⊥) → (n ≡ 2 → ⊥) → TowardZero ≡ mode_of n
-mode-last n a b c = rw (ne_eqb n 0 a, ne_eqb n 1 b, ne_eqb n 2 c)
 
 -- ---- the number of a case
 

@@ -1,12 +1,12 @@
-// The operations, the roundings and the rules for centres by their cases, the flags by their bits, questions, and the choice between two neighbours.
+// The operations, the roundings, the rules for centres and the refusals by their cases, the flags by their bits, and the choice between two
+// neighbours.
 #![tactic(auto)]
 
 ghost use Rattle.std.specs.Int.Bits.{bit_or};
 ghost use Rattle.std.specs.Prelude.{◌%◌, ◌≡◌};
-ghost use Rattle.kinds.specs.Operation.{is_operation, op_of, is_reciprocal};
-ghost use Rattle.kinds.specs.Rounding.{is_rounding, mode_of, number_of, away};
+ghost use Rattle.kinds.specs.Operation.{is_reciprocal};
+ghost use Rattle.kinds.specs.Rounding.{number_of, away};
 ghost use Rattle.kinds.specs.Refusal.{number_of as refusal_number, operation_asked, rounding_asked};
-ghost use Rattle.kinds.specs.Question.{ask as question_ask};
 ghost use Rattle.kinds.specs.Guard.{place_of};
 
 // Why a call is refused: the first of its questions that is answered "no", by the question's number.
@@ -62,37 +62,14 @@ impl TryFrom<u8> for Op {
 }
 
 impl Op {
-    // Question 1.
-    pub fn is_number(number: u8) -> bool
-        ensures { result ≡ is_operation number }
-    {
-        (1 <= number) & (number <= 3)
-    }
-
-    // The operation with this number, once question 1 is asked.
-    pub fn of(number: u8) -> Op
-        ensures { result ≡ op_of number }
-    {
-        match number {
-            1 => Op::Reciprocal,
-            2 => Op::Root,
-            _ => Op::InverseRoot,
-        }
-    }
-
     pub fn is_reciprocal(self) -> bool
         ensures { result ≡ is_reciprocal self }
     {
-        match self {
-            Op::Reciprocal => true,
-            Op::Root => false,
-            Op::InverseRoot => false,
-        }
+        matches!(self, Op::Reciprocal)
     }
 }
 
-// The rule that the centres of a list follow: the ball touches the surface at its point (document 01), or is lifted off the heights round
-// it (document 02, #104).
+// The rule that the centres of a list follow: the ball touches the surface at its point, or is lifted off the heights round it.
 #[derive(Clone, Copy, Debug, PartialEq, Eq)]
 pub enum Rule {
     Touching,
@@ -125,25 +102,6 @@ impl TryFrom<u8> for Mode {
 }
 
 impl Mode {
-    // Question 2.
-    pub fn is_number(number: u8) -> bool
-        ensures { result ≡ is_rounding number }
-    {
-        number <= 3
-    }
-
-    // The rounding with this number, once question 2 is asked.
-    pub fn of(number: u8) -> Mode
-        ensures { result ≡ mode_of number }
-    {
-        match number {
-            0 => Mode::Nearest,
-            1 => Mode::Up,
-            2 => Mode::Down,
-            _ => Mode::TowardZero,
-        }
-    }
-
     // The number of a rounding.
     pub fn number(self) -> u8
         ensures { result ≡ number_of self }
@@ -173,13 +131,6 @@ pub fn joined(status: u8, flags: u8) -> u8
     ensures { result ≡ bit_or (status % 32) (flags % 32) }
 {
     (status % 32) | (flags % 32)
-}
-
-// One question: what the later ones give where the answer is yes, and its number where it is no.
-pub fn ask(yes: bool, number: u8, rest: u8) -> u8
-    ensures { result ≡ question_ask yes number rest }
-{
-    if yes { rest } else { number }
 }
 
 // Whether a magnitude goes to the neighbour farther from zero: `half` says that the midpoint is reached, `more` that something
