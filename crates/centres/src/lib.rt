@@ -127,9 +127,9 @@ fn put_words(out: &mut [u8], at: usize, words: Words)
     requires { at + 12 ≤ length out.old }
     ensures { out.new ≡ splice at (words_bytes words) out.old }
 {
-    put_word(out, at, words.x);
-    put_word(out, at + 4, words.y);
-    put_word(out, at + 8, words.z);
+    put_word(out, at, words.x as u64);
+    put_word(out, at + 4, words.y as u64);
+    put_word(out, at + 8, words.z as u64);
 }
 
 // Puts the record of an inner point, which is prepared, over the bytes from `at` on.

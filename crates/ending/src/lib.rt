@@ -2,28 +2,12 @@
 #![tactic(auto)]
 
 ghost use Rattle.std.specs.Prelude.{◌≡◌, ◌+◌, ◌≤◌, length};
-ghost use Rattle.words.specs.Word.{half_bytes, word_bytes};
 ghost use Rattle.words.specs.Splice.{splice};
 ghost use Rattle.trailer.specs.Kinds.{length_of, radius_size, rounding_size};
 ghost use Rattle.trailer.specs.Bytes.{radius_bytes, rounding_bytes, front_bytes, trailer_bytes};
 
 use trailer::{Fields, Kind, layout_of, radius_size};
-
-// Puts the two bytes of a number over those from `at` on, the lower first.
-fn put_half(out: &mut [u8], at: usize, x: u64)
-    requires { at + 2 ≤ length out.old }
-    ensures { out.new ≡ splice at (half_bytes x) out.old }
-{
-    words::put(out, at, ((x % 65536) as u16).to_le_bytes());
-}
-
-// Puts the four bytes of a number over those from `at` on, the lowest first.
-fn put_word(out: &mut [u8], at: usize, x: u64)
-    requires { at + 4 ≤ length out.old }
-    ensures { out.new ≡ splice at (word_bytes x) out.old }
-{
-    words::put(out, at, ((x % 4294967296) as u32).to_le_bytes());
-}
+use words::{put_half, put_word};
 
 // Puts the letters and the fields up to the step, which every kind has alike.
 fn put_front(out: &mut [u8], at: usize, letters: [u8; 4], fields: Fields)

@@ -46,7 +46,7 @@ pub fn lift_record(point: Point<'_>, out: &mut [u8], at: usize)
     let x = word_at(out, at);
     let y = word_at(out, at + 4);
     let z = lifted_word(point, x, y, word_at(out, at + 8));
-    put_word(out, at, x);
-    put_word(out, at + 4, y);
-    put_word(out, at + 8, z);
+    put_word(out, at, x as u64);
+    put_word(out, at + 4, y as u64);
+    put_word(out, at + 8, z as u64);
 }

@@ -2,7 +2,7 @@
 #![tactic(auto)]
 
 ghost use Rattle.std.specs.Prelude.{◌≡◌, ◌+◌, ◌≤◌, ◌<◌, length, ◌+ℤ◌};
-ghost use Rattle.words.specs.Word.{half_at, word_at, word_bytes, reads_at};
+ghost use Rattle.words.specs.Word.{half_at, word_at, half_bytes, word_bytes, reads_at};
 ghost use Rattle.words.specs.Splice.{splice};
 ghost use Rattle.words.specs.Signed.{signed, word_of, with_sign};
 ghost use Rattle.words.specs.Parts.{parts_of};
@@ -39,13 +39,20 @@ pub fn put<const N: usize>(out: &mut [u8], at: usize, bytes: [u8; N])
     out[at..at + N].copy_from_slice(&bytes);
 }
 
-// The same of a word's four bytes.
-#[tactic(auto, unfolding(crate::specs::Word::word_bytes))]
-pub fn put_word(out: &mut [u8], at: usize, word: u32)
-    requires { at + 4 ≤ length out.old }
-    ensures { out.new ≡ splice at (word_bytes word) out.old }
+// Puts the two bytes of a number over those from `at` on, the lower first.
+pub fn put_half(out: &mut [u8], at: usize, x: u64)
+    requires { at + 2 ≤ length out.old }
+    ensures { out.new ≡ splice at (half_bytes x) out.old }
 {
-    put(out, at, word.to_le_bytes());
+    put(out, at, ((x % 65536) as u16).to_le_bytes());
+}
+
+// Puts the four bytes of a number over those from `at` on, the lowest first.
+pub fn put_word(out: &mut [u8], at: usize, x: u64)
+    requires { at + 4 ≤ length out.old }
+    ensures { out.new ≡ splice at (word_bytes x) out.old }
+{
+    put(out, at, ((x % 4294967296) as u32).to_le_bytes());
 }
 
 // A signed number by its sign and its magnitude; 0 is not negative.

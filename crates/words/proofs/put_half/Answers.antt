@@ -1,8 +1,8 @@
--- `ending::put_half` meets its contract: std's bytes are those of the number. Assumes nothing.
+-- `words::put_half` meets its contract: std's bytes are those of the number. Assumes nothing.
 use Rattle.std.proofs.Common.{ap, ◌∙◌}
 use Rattle.words.specs.Splice.{splice}
 use Rattle.words.proofs.Splicing.{half-low}
-use Rattle.ending.proofs.put_half.Goals as goal
+use Rattle.words.proofs.put_half.Goals as goal
 
 pub returns : goal.returns
 returns c = c.put.ensures ∙ ap (λ b. splice c.args.at b c.args.out.now) (c.to_le_bytes.ensures ∙ half-low c.args.x)
