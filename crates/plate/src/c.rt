@@ -1,4 +1,5 @@
-// What calls for C give back if one number has no room for it. The calls are those of the crate `plate_c`.
+// What calls for C give back if one number has no room for it: numbers in structs, because C can be handed no cases. The calls are those
+// of the crate `plate_c`.
 
 // The reply for C of the raw call for significands of 53 bits: refusal 0 with the answer, or the number of a question with answer 0.
 #[repr(C)]
@@ -17,8 +18,7 @@ pub struct CBinary64Reply {
     pub bits: u64,
 }
 
-// The record call's reply for C, which can be handed no cases: the rounding by its number, and 255, which no call takes for a rounding,
-// where it is unknown.
+// The record call's reply for C: the rounding by its number, and 255, which no call takes for a rounding, where it is unknown.
 #[repr(C)]
 #[derive(Clone, Copy)]
 pub struct CRecordReply {

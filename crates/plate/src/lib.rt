@@ -27,7 +27,7 @@ pub use kinds::Refusal;
 use kinds::{Flags, Mode, Op, Rule, joined};
 use pattern::answer::Rounded;
 
-// An operation by its number.
+// An operation by its number: a struct with named constants and no enum, because a call takes every byte and answers it.
 #[derive(Clone, Copy, Debug, PartialEq, Eq)]
 pub struct Operation(pub u8);
 
@@ -50,7 +50,7 @@ impl TryFrom<Operation> for Op {
     }
 }
 
-// A rounding by its number.
+// A rounding by its number, a struct likewise.
 #[derive(Clone, Copy, Debug, PartialEq, Eq)]
 pub struct Rounding(pub u8);
 
@@ -83,7 +83,7 @@ impl From<Mode> for Rounding {
     }
 }
 
-// A flag, or several, by its bit.
+// A flag, or several, by its bit; a number, because flags are joined.
 #[derive(Clone, Copy, Debug, PartialEq, Eq)]
 pub struct Flag(pub u8);
 
@@ -99,7 +99,7 @@ impl Flag {
     pub const INEXACT: Flag = Flag(Flags::INEXACT);
 }
 
-// The flags that were raised since the status was last cleared, one bit each.
+// The flags that were raised since the status was last cleared, one bit each. A status is a value: a method hands the new one back.
 #[derive(Clone, Copy, Debug, Default, PartialEq, Eq)]
 pub struct Status {
     pub flags: u8,
@@ -169,7 +169,7 @@ pub fn raw(operation: Operation, significand: u32, parity: u8) -> Result<u32, Re
     raw::call(Op::try_from(operation)?, significand, parity)
 }
 
-// How many numbers the tables are.
+// How many numbers the tables are: what a caller lends has this length.
 pub const TABLES: usize = raw64::TABLES;
 
 // The filling call: the four tables of M that the roots of raw64 need, put into the lent slice. It asks one question, 15, and after that
