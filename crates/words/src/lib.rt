@@ -48,7 +48,8 @@ pub fn put_word(out: &mut [u8], at: usize, word: u32)
     put(out, at, word.to_le_bytes());
 }
 
-// A signed number by its sign and its magnitude; 0 is not negative.
+// A signed number by its sign and its magnitude. Not an i32, because an offset that rounds to 0 keeps the sign of its component; a 0 that
+// is read is not negative.
 #[derive(Clone, Copy)]
 pub struct Signed {
     pub negative: bool,
@@ -62,7 +63,7 @@ pub fn signed_of(word: u32) -> Signed
     parts_of(i32_of(word))
 }
 
-// The same as a number of the language.
+// The same as a number of the language: its `cast_signed`, told by the definition of a word's number.
 pub fn i32_of(word: u32) -> i32
     ensures { result ≡ signed word }
 {
