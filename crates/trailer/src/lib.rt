@@ -18,7 +18,8 @@ pub enum Kind {
 }
 
 // What follows the letters: the distance from the trailer's first byte back to the first of what it describes; the sizes of the map;
-// step and radius in micrometres; and the rounding, which is 0 in a kind that has none.
+// step and radius in micrometres; and the rounding, which is 0 in a kind that has none. They have the widths in which they are worked
+// with, and not those of their bytes, because each would be widened at every use.
 #[derive(Clone, Copy)]
 pub struct Fields {
     pub distance: u64,
@@ -30,7 +31,7 @@ pub struct Fields {
 }
 
 // What a kind fixes: its letters, its length in bytes, whether the radius has 32 bits and not 16, and whether a rounding of 16 bits
-// stands last.
+// stands last. No kind has a radius of 32 bits yet; the flag stays because the definition of a trailer has it.
 #[derive(Clone, Copy)]
 pub struct Layout {
     pub letters: [u8; 4],

@@ -55,7 +55,8 @@ pub fn put_word(out: &mut [u8], at: usize, x: u64)
     put(out, at, ((x % 4294967296) as u32).to_le_bytes());
 }
 
-// A signed number by its sign and its magnitude; 0 is not negative.
+// A signed number by its sign and its magnitude. Not an i32, because an offset that rounds to 0 keeps the sign of its component; a 0 that
+// is read is not negative.
 #[derive(Clone, Copy)]
 pub struct Signed {
     pub negative: bool,
@@ -69,7 +70,7 @@ pub fn signed_of(word: u32) -> Signed
     parts_of(i32_of(word))
 }
 
-// The same as a number of the language.
+// The same as a number of the language: its `cast_signed`, told by the definition of a word's number.
 pub fn i32_of(word: u32) -> i32
     ensures { result ≡ signed word }
 {
