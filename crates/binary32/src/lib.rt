@@ -3,7 +3,6 @@
 
 ghost use Rattle.std.specs.Prelude.{◌≡◌};
 ghost use Rattle.ieee.specs.Format.{binary32};
-ghost use Rattle.kinds.specs.declared.Op.TheVariants.{Reciprocal, Root, InverseRoot};
 ghost use Rattle.ieee.specs.Answer.{answer_of};
 ghost use Rattle.pattern.specs.Answer.{Answered};
 ghost use Rattle.binary32.specs.Normal.{is_plain};
@@ -12,7 +11,8 @@ use kinds::{Mode, Op};
 use pattern::answer::Rounded;
 use pattern::format::Binary32;
 use pattern::parts::fields;
-use results::{finite, normal};
+use results::finite;
+use results::normal::normal;
 use special::{is_special, special};
 
 // The patterns of the least normal number and of infinity; those above the latter are NaNs and negative.
@@ -27,43 +27,26 @@ pub fn rounded(op: Op, mode: Mode, bits: u32) -> Rounded
     ensures { Answered binary32 (answer_of binary32 op mode bits) result }
 {
     match op {
-        Op::Reciprocal => reciprocal(mode, bits),
-        Op::Root => root(mode, bits),
-        Op::InverseRoot => inverse_root(mode, bits),
+        Op::Reciprocal => by(Op::Reciprocal, mode, bits),
+        Op::Root => by(Op::Root, mode, bits),
+        Op::InverseRoot => by(Op::InverseRoot, mode, bits),
     }
 }
 
-fn reciprocal(mode: Mode, bits: u32) -> Rounded
-    ensures { Answered binary32 (answer_of binary32 Reciprocal mode bits) result }
+// Put into each arm above, so that each operation has its own code.
+#[inline(always)]
+fn by(op: Op, mode: Mode, bits: u32) -> Rounded
+    ensures { Answered binary32 (answer_of binary32 op mode bits) result }
 {
     let x = fields::<Binary32>(bits as u64);
-    if !is_plain(Op::Reciprocal, bits, x.exponent) {
-        return apart(Op::Reciprocal, mode, bits);
+    if !is_plain(op, bits, x.exponent) {
+        return apart(op, mode, bits);
     }
-    normal::reciprocal(mode, x)
-}
-
-fn root(mode: Mode, bits: u32) -> Rounded
-    ensures { Answered binary32 (answer_of binary32 Root mode bits) result }
-{
-    let x = fields::<Binary32>(bits as u64);
-    if !is_plain(Op::Root, bits, x.exponent) {
-        return apart(Op::Root, mode, bits);
-    }
-    normal::root(mode, x)
-}
-
-fn inverse_root(mode: Mode, bits: u32) -> Rounded
-    ensures { Answered binary32 (answer_of binary32 InverseRoot mode bits) result }
-{
-    let x = fields::<Binary32>(bits as u64);
-    if !is_plain(Op::InverseRoot, bits, x.exponent) {
-        return apart(Op::InverseRoot, mode, bits);
-    }
-    normal::inverse_root(mode, x)
+    normal(op, mode, x)
 }
 
 // Whether the operand is a normal number and its result too, whatever the rounding.
+#[inline(always)]
 fn is_plain(op: Op, bits: u32, exponent: u64) -> bool
     ensures { result ≡ is_plain op bits exponent }
 {

@@ -2,14 +2,15 @@
 // exact result beside m = 2t + rest, which is t, t + 1/2 or t + 1 by what the rounding leaves of the way between two neighbours, in halves.
 ghost use Rattle.std.specs.Prelude.{◌≡◌, ◌+◌, ◌^◌, ◌<◌, ◌≤◌, false, if◌then◌else◌};
 ghost use Rattle.kinds.specs.declared.Op.TheVariants.{Reciprocal, Root, InverseRoot};
+ghost use Rattle.kinds.specs.Operation.{is_reciprocal};
 ghost use Rattle.kinds.specs.Guard.{rest_of};
-ghost use Rattle.significand.specs.Width.{k32, t32, Significand};
+ghost use Rattle.significand.specs.Width.{k32, t32, Significand, Operand};
 ghost use Rattle.significand.specs.Distance.{Between};
 ghost use Rattle.ieee.specs.Floor.{target_of, taken_by};
 ghost use Rattle.floors.specs.Taken.{TakenOf, carried_by};
 
 use crate::{HALF, LEAST_SIGNIFICAND, WHOLE, root};
-use kinds::Mode;
+use kinds::{Mode, Op};
 
 // The significand, and whether the exact result is another number.
 #[derive(Clone, Copy)]
@@ -45,8 +46,23 @@ fn rest_of(mode: Mode, negative: bool) -> u64
     }
 }
 
-// The reciprocal's. The rest is worked out first, so that the roundings share the test.
-pub fn reciprocal_taken(mode: Mode, negative: bool, y: u64, g: u64) -> Taken
+// The significand of each operation, whose roots are never negative.
+#[inline(always)]
+pub fn taken_of(op: Op, mode: Mode, negative: bool, y: u64, p: u64, g: u64) -> Taken
+    requires operand { Operand k32 t32 op y p × (g < 2 ^ 32) × Between op k32 t32 y p g }
+    requires positive { is_reciprocal op ≡ false → negative ≡ false }
+    ensures { TakenOf op y (target_of 23 op y p) (rest_of mode negative) result }
+{
+    match op {
+        Op::Reciprocal => reciprocal_taken(mode, negative, y, g),
+        Op::Root => root_taken(mode, y, p, g),
+        Op::InverseRoot => inverse_root_taken(mode, y, p, g),
+    }
+}
+
+// The reciprocal's. The rest is worked out first and is no const parameter, so that the roundings share the test: a copy of it for each
+// would take no fewer instructions.
+fn reciprocal_taken(mode: Mode, negative: bool, y: u64, g: u64) -> Taken
     requires { Significand k32 t32 y × (g < 2 ^ 32) × Between Reciprocal k32 t32 y 0 g }
     ensures { TakenOf Reciprocal y (target_of 23 Reciprocal y 0) (rest_of mode negative) result }
 {
@@ -68,7 +84,7 @@ fn reciprocal_with(rest: u64, y: u64, g: u64) -> Taken
 }
 
 // The root's, which has its floor at once, and with it whether something lies above. No root is negative.
-pub fn root_taken(mode: Mode, y: u64, p: u64, g: u64) -> Taken
+fn root_taken(mode: Mode, y: u64, p: u64, g: u64) -> Taken
     requires { Significand k32 t32 y × (p ≤ 1) × (g < 2 ^ 32) × Between Root k32 t32 y p g }
     ensures { TakenOf Root y (target_of 23 Root y p) (rest_of mode false) result }
 {
@@ -98,29 +114,29 @@ fn carried(mode: Mode, more: bool) -> u64
     }
 }
 
-// The inverse root's. Each rounding has its own test, whose rest is a number.
-pub fn inverse_root_taken(mode: Mode, y: u64, p: u64, g: u64) -> Taken
+// The inverse root's. Each rounding has its own test, whose rest is a number of its code.
+fn inverse_root_taken(mode: Mode, y: u64, p: u64, g: u64) -> Taken
     requires { Significand k32 t32 y × (p ≤ 1) × (g < 2 ^ 32) × Between InverseRoot k32 t32 y p g }
     ensures { TakenOf InverseRoot y (target_of 23 InverseRoot y p) (rest_of mode false) result }
 {
     match mode {
-        Mode::Nearest => inverse_root_with(1, y, p, g),
-        Mode::Up => inverse_root_with(0, y, p, g),
-        Mode::Down => inverse_root_with(2, y, p, g),
-        Mode::TowardZero => inverse_root_with(2, y, p, g),
+        Mode::Nearest => inverse_root_with::<1>(y, p, g),
+        Mode::Up => inverse_root_with::<0>(y, p, g),
+        Mode::Down => inverse_root_with::<2>(y, p, g),
+        Mode::TowardZero => inverse_root_with::<2>(y, p, g),
     }
 }
 
 // The target is 0 modulo 2^64, and no side is half of that away.
-fn inverse_root_with(rest: u64, y: u64, p: u64, g: u64) -> Taken
-    requires rest_bound { rest ≤ 2 }
+fn inverse_root_with<const REST: u64>(y: u64, p: u64, g: u64) -> Taken
+    requires rest_bound { REST ≤ 2 }
     requires significand { Significand k32 t32 y × (p ≤ 1) × (g < 2 ^ 32) × Between InverseRoot k32 t32 y p g }
-    ensures { TakenOf InverseRoot y (target_of 23 InverseRoot y p) rest result }
+    ensures { TakenOf InverseRoot y (target_of 23 InverseRoot y p) REST result }
 {
-    let t = (g + 8 - 8 * rest) / 16;
-    let m = 2 * t + rest;
+    let t = (g + 8 - 8 * REST) / 16;
+    let m = 2 * t + REST;
     let over = (m * m).wrapping_mul(y);
-    let next = HALF <= over.wrapping_sub(rest / 2);
+    let next = HALF <= over.wrapping_sub(REST / 2);
     Taken {
         significand: next_if(next, t),
         more: (y != LEAST_SIGNIFICAND) | (p == 1),

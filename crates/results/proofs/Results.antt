@@ -40,6 +40,10 @@ use Rattle.results.specs.declared.estimate.Estimate.{Estimate}
 pub operand-is : (op : Op) (y j : ℕ) (k : Scales) → 2 ^ 23 ≤ y → y < 2 ^ 24 → ScalesOf binary32 op j k → Operand k32 t32 op y k.parity
 operand-is op y j k least below s = record { significand = record { least = least; below = below }; parity = s.one_bit; even = s.even }
 
+-- a root's operand is positive
+pub not-negative : (op : Op) (o : Parts) → Plain op o → is_reciprocal op ≡ false → eqb o.sign 1 ≡ false
+not-negative op o p root = rw (p.positive root)
+
 module _ (op : Op) (x : Scaled) (r : Estimate) (e : EstimateOf op x r) where
   abbrev y : ℕ
   y = x.significand
@@ -99,11 +103,3 @@ module _ (op : Op) (x : Scaled) (r : Estimate) (e : EstimateOf op x r) where
           let m : Neighbour = neighbour_of binary32 h.floor n.more k in
           let same = normal-rounded binary32 h.floor k n.more (floor (rest_of mode (eqb o.sign 1)) n h) mode o.sign in
           exact-answered h.floor n.more h.floored o.unsigned s m refl mode o.sign a (rw (same, ← h.is) ans)
-
-      -- a root's operand is positive
-      pub root-answered : is_reciprocal op ≡ false → TakenOf op y (target_of 23 op y r.scales.parity) (rest_of mode false) n
-          → Answered binary32 (normal_answer binary32 0 k n.significand n.more) a
-          → Answered binary32 (to_finite binary32 op mode o.sign o.unsigned) a
-      root-answered root h ans =
-          let none : o.sign ≡ 0 = p.positive root in
-          taken-answered (rw none h) (rw none ans)

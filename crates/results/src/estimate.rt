@@ -14,6 +14,7 @@ pub struct Estimate {
     pub scales: Scales,
 }
 
+#[inline(always)]
 pub fn estimate_of(op: Op, x: Scaled) -> Estimate
     requires { (2 ^ 23 ≤ x.significand) × (x.significand < 2 ^ 24) × (x.exponent + 2 < 2 ^ 8 + 23) }
     ensures { EstimateOf op x result }

@@ -3,4 +3,4 @@ use Rattle.floors.proofs.Tested.{inverse-taken-is}
 use Rattle.floors.proofs.taken.inverse_root_with.Goals as goal
 
 pub returns : goal.returns
-returns c = search inverse-taken-is
+returns g c = search inverse-taken-is
