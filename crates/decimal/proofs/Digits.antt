@@ -2,12 +2,12 @@
 use mathlib.Core.Path.{◌≡◌, refl, sym, ap, ◌∙◌}
 use mathlib.Core.List.{List, [], ◌∷◌, ◌++◌}
 use Prim.Native.Nat.{ℕ, zero, suc, ◌+◌, ◌-◌, ◌*◌, ◌/◌, ◌%◌, ◌^◌, ◌≤◌, ◌<◌}
-use native.Mathlib.Nat.{pow-suc, div-add-mod', div-lt_iff_lt-mul, mod-lt}
+use native.Mathlib.Nat.{pow-suc, div-add-mod', div-lt_iff_lt-mul}
 use native.Mathlib.Omega.{arith}
 use borrow.Author.Tests.{lt-ltb, le-ltb, ne_eqb}
 use lib.Dec.{lit<}
 use lib.ListN.{length, get_or, length-append, get_or-append}
-use lib.Seq.{get_or-append-add}
+use lib.Seq.{get_or-append_seam}
 use lib.IntN.{ℤ, pos, negsuc, neg_ℤ}
 use Rattle.words.proofs.Differences.{either}
 use Rattle.decimal.specs.Digits.{digit, minus, digits_within, decimal, signed_decimal, value_from, value_of, signed_value_of}
@@ -68,13 +68,10 @@ value-append v b (a ∷ s) = value-append (10 * v + (a - 48)) b s
 
 -- the digits of a number stand for the number
 pub value-decimal : (x : ℕ) → value_of (decimal x) ≡ x
-value-decimal = by_last (λ (x : ℕ) (s : List ℕ). value_of s ≡ x) few more
-  where
-    few : (x : ℕ) → x < 10 → value_of (digit x ∷ []) ≡ x
-    few x h = unfold value_from in omega arith
-
-    more : (x : ℕ) → 10 ≤ x → value_of (decimal (x / 10)) ≡ x / 10 → value_of (decimal (x / 10) ++ digit (x % 10) ∷ []) ≡ x
-    more x h e = value-append 0 (digit (x % 10)) (decimal (x / 10)) ∙ omega (arith, div-add-mod' x 10)
+value-decimal =
+    by_last (λ (x : ℕ) (s : List ℕ). value_of s ≡ x)
+    (λ x h. unfold value_from in omega arith)
+    (λ x h e. value-append 0 (digit (x % 10)) (decimal (x / 10)) ∙ omega (arith, div-add-mod' x 10))
 
 -- ---- what it is made of
 
@@ -84,26 +81,18 @@ at-end : (P : ℕ → Type 0) (s : List ℕ) (b : ℕ) → ((i : ℕ) → i < le
 at-end P s b each last i h =
     let n : length (s ++ b ∷ []) ≡ length s + 1 = length-append s (b ∷ []) in
     either i (length s)
-    (λ k.
-    let e : length s + 0 ≡ i = omega arith in
-    let f : get_or (s ++ b ∷ []) i 0 ≡ b = ap (λ (j : ℕ). get_or (s ++ b ∷ []) j 0) (sym e) ∙ get_or-append-add s (b ∷ []) 0 0 in
-    rw f last)
+    (λ k. let e : i ≡ length s = omega arith in rw (e, get_or-append_seam) last)
     (λ k. rw (get_or-append s (b ∷ []) 0 i k) (each i k))
+
+abbrev is_digit : ℕ → Type 0
+is_digit b = (48 ≤ b) × (b < 58)
 
 -- digits alone
 pub all_digits : (x i : ℕ) → i < length (decimal x) → (48 ≤ get_or (decimal x) i 0) × (get_or (decimal x) i 0 < 58)
-all_digits = by_last (λ (x : ℕ) (s : List ℕ). (i : ℕ) → i < length s → (48 ≤ get_or s i 0) × (get_or s i 0 < 58)) few more
-  where
-    few : (x : ℕ) → x < 10 → (i : ℕ) → i < 1 → (48 ≤ get_or (digit x ∷ []) i 0) × (get_or (digit x ∷ []) i 0 < 58)
-    few x h zero k = (omega arith, omega arith)
-    few x h (suc i) k = absurd (omega arith)
-
-    more : (x : ℕ) → 10 ≤ x → ((i : ℕ) → i < length (decimal (x / 10)) → (48 ≤ get_or (decimal (x / 10)) i 0) × (get_or (decimal (x / 10)) i 0 < 58))
-        → (i : ℕ) → i < length (decimal (x / 10) ++ digit (x % 10) ∷ [])
-        → (48 ≤ get_or (decimal (x / 10) ++ digit (x % 10) ∷ []) i 0) × (get_or (decimal (x / 10) ++ digit (x % 10) ∷ []) i 0 < 58)
-    more x h before =
-        let l : x % 10 < 10 = mod-lt x (lit< tt) in
-        at-end (λ (b : ℕ). (48 ≤ b) × (b < 58)) (decimal (x / 10)) (digit (x % 10)) before (omega arith, omega arith)
+all_digits =
+    by_last (λ (x : ℕ) (s : List ℕ). (i : ℕ) → i < length s → is_digit (get_or s i 0))
+    (λ x h i k. at-end is_digit [] (digit x) (λ j l. absurd (omega arith)) (omega arith, omega arith) i k)
+    (λ x h before. at-end is_digit (decimal (x / 10)) (digit (x % 10)) before (omega arith, omega arith))
 
 -- at least one of them
 pub some-digit : (x : ℕ) → 0 < length (decimal x)
@@ -111,22 +100,17 @@ some-digit = by_last (λ (x : ℕ) (s : List ℕ). 0 < length s) (λ x h. omega 
 
 -- the first is no zero, except of the number zero
 pub no-zero-in-front : (x : ℕ) → 0 < x → 48 < get_or (decimal x) 0 0
-no-zero-in-front = by_last (λ (x : ℕ) (s : List ℕ). 0 < x → 48 < get_or s 0 0) few more
-  where
-    few : (x : ℕ) → x < 10 → 0 < x → 48 < get_or (digit x ∷ []) 0 0
-    few x h k = omega arith
-
-    more : (x : ℕ) → 10 ≤ x → (0 < x / 10 → 48 < get_or (decimal (x / 10)) 0 0) → 0 < x → 48 < get_or (decimal (x / 10) ++ digit (x % 10) ∷ []) 0 0
-    more x h before k = rw (get_or-append (decimal (x / 10)) (digit (x % 10) ∷ []) 0 0 (some-digit (x / 10))) (before (omega arith))
+no-zero-in-front =
+    by_last (λ (x : ℕ) (s : List ℕ). 0 < x → 48 < get_or s 0 0)
+    (λ x h k. omega arith)
+    (λ x h before k. rw (get_or-append (decimal (x / 10)) (digit (x % 10) ∷ []) 0 0 (some-digit (x / 10))) (before (omega arith)))
 
 -- ---- how long it is
 
 pub length-decimal : (x k : ℕ) → x < 10 ^ suc k → length (decimal x) ≤ suc k
-length-decimal x = by_last (λ (x : ℕ) (s : List ℕ). (k : ℕ) → x < 10 ^ suc k → length s ≤ suc k) few more x
+length-decimal x =
+    by_last (λ (x : ℕ) (s : List ℕ). (k : ℕ) → x < 10 ^ suc k → length s ≤ suc k) (λ x h k l. omega arith) more x
   where
-    few : (x : ℕ) → x < 10 → (k : ℕ) → x < 10 ^ suc k → 1 ≤ suc k
-    few x h k l = omega arith
-
     more : (x : ℕ) → 10 ≤ x → ((k : ℕ) → x / 10 < 10 ^ suc k → length (decimal (x / 10)) ≤ suc k)
         → (k : ℕ) → x < 10 ^ suc k → length (decimal (x / 10) ++ digit (x % 10) ∷ []) ≤ suc k
     more x h before zero l = absurd (omega arith)

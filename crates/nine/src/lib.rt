@@ -36,7 +36,7 @@ fn squares_of(offset: Signed, step: u64) -> Squares
     }
 }
 
-// z raised over the nine heights round an inner point.
+// z raised over the nine heights round an inner point, row by row: each row has a square of its own, as in `raise_row`.
 fn raise_nine(point: Point<'_>, x: Squares, y: Squares, z: u64) -> u64
     requires small { Small x × Small y × (z < 2 ^ 31) }
     ensures { LeastFrom (meets_these point.entry.map.trailer.radius (nine_from point.entry.map.bytes.now point.entry.map.trailer.width point.entry.column point.entry.row x y)) z result × (result < 2 ^ 31) }

@@ -9,7 +9,8 @@ ghost use Rattle.raising.specs.Squares.{Small};
 use ceiling::ceiling_root;
 use maps::Map;
 
-// The squares of the level distances along x or y: to the column or row before the point, to its own, and to the one behind.
+// The squares of the level distances along x or y: to the column or row before the point, to its own, and to the one behind. That they
+// are small stands in clauses and not in the type, because definitions make such values, and each of them would carry a proof.
 #[derive(Clone, Copy)]
 pub struct Squares {
     pub before: u64,
@@ -52,7 +53,8 @@ pub fn nudge(z: u64, h: u64, apart: u64, radius: u64) -> u64
     }
 }
 
-// z raised over three heights of a row, those round a column; y is the square of the row's level distance.
+// z raised over three heights of a row, those round a column; y is the square of the row's level distance. Three named steps: a fold would
+// have to say which square goes with which height.
 pub fn raise_row(map: Map<'_>, column: usize, row: usize, x: Squares, y: u64, z: u64) -> u64
     requires inside { (1 ≤ column) × (column + 1 < map.trailer.width) × (row < map.trailer.depth) }
     requires small { Small x × (y < 2 ^ 36) × (z < 2 ^ 31) }
