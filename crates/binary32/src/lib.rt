@@ -57,7 +57,8 @@ fn is_plain(op: Op, bits: u32, exponent: u64) -> bool
     }
 }
 
-// The answer to any pattern, the long way.
+// The answer to any pattern, the long way. The steps are those of `binary64::answer`, which reads lent tables and may be refused: of its
+// eight calls those of the raw answer and of the floor differ, so that one function over the format would be no plainer.
 #[cold]
 #[inline(never)]
 fn apart(op: Op, mode: Mode, bits: u32) -> Rounded

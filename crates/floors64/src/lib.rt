@@ -1,5 +1,6 @@
 // The floor of an exact result with one guard bit, from a raw answer at k = 15. Twice the distance is less than one of the floor's steps, so
-// that the floor is the number tried or the one before; the remainder of the number tried decides.
+// that the floor is the number tried or the one before; the remainder of the number tried decides. At k = 7 (`floors`) another number is
+// tried, and a step beyond it: one function for both widths would be two bodies behind a choice, no plainer.
 #![tactic(auto)]
 
 ghost use Rattle.std.specs.Prelude.{◌≡◌, ◌<◌, ◌≤◌};

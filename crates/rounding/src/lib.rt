@@ -35,6 +35,7 @@ pub fn round<F: Format>(mode: Mode, sign: u64, n: Neighbour) -> Rounded
     }
 }
 
+// One of two numbers, without a branch.
 fn choose(first: bool, a: u64, b: u64) -> u64
     requires { b ≤ a }
     ensures { (result ≡ cond first a b) × (result ≤ a) }

@@ -1,4 +1,5 @@
-// Operands that need no arithmetic: NaN before the sign, then a negative operand of a root, then zeros, then infinities.
+// Operands that need no arithmetic: NaN before the sign, then a negative operand of a root, then zeros, then infinities. Each answer has a
+// function that says its one line of the rules.
 #![tactic(auto)]
 
 ghost use Rattle.std.specs.Prelude.{◌≡◌, cond, ◌*◌, ◌<◌};
