@@ -1,12 +1,9 @@
--- How many heights and inner points an accepted map has at most. Assumes nothing.
-use Prim.Native.Nat.{ℕ, ◌-◌, ◌*◌, ◌≤◌}
+-- How many inner points an accepted map has at most. Assumes nothing.
+use Prim.Native.Nat.{ℕ, ◌-◌, ◌≤◌}
 use native.Mathlib.Nat.{mul-le-mul}
 use native.Mathlib.Omega.{arith}
 use Rattle.cutter.specs.List.{count_of}
 use Rattle.cutter.specs.Accepted.{Sizes}
-
-pub size-most : (w d : ℕ) → Sizes w d → w * d ≤ 4096
-size-most w d s = mul-le-mul s.narrow s.shallow
 
 pub count_most : (w d : ℕ) → Sizes w d → count_of w d ≤ 3844
 count_most w d s =

@@ -6,8 +6,6 @@ use mathlib.Core.List.{List}
 use native.Mathlib.Nat.{mul-le-mul}
 use native.Mathlib.Omega.{arith}
 use lib.IntN.{ℤ, pos, nat_abs, ◌+ℤ◌, ◌-ℤ◌, pos-+ℤ-pos}
-use mir.Syntax.{w64}
-use mir.Val.{Fits}
 use Rattle.numbers.proofs.Differences.{diff-abs, diff-less, pos-less}
 use Rattle.words.specs.Word.{word_at}
 use Rattle.words.specs.Signed.{signed, with_sign}
@@ -26,18 +24,9 @@ module _ (o : Signed) (step : ℕ) (h : o.magnitude ≤ radius_most) (k : step �
   far-most : o.magnitude + step ≤ 22500
   far-most = omega arith
 
-  pub far-fits : Fits w64 ((o.magnitude + step) * (o.magnitude + step))
-  far-fits = omega (arith, mul-le-mul far-most far-most)
-
-  pub own-fits : Fits w64 (o.magnitude * o.magnitude)
-  own-fits = omega (arith, mul-le-mul h h)
-
   module _ (s : ℕ) (near-is : s ≡ o.magnitude - step + (step - o.magnitude)) where
     near-most : s ≤ 22500
     near-most = omega (arith, near-is)
-
-    pub near_fits : Fits w64 (s * s)
-    near_fits = omega (arith, mul-le-mul near-most near-most)
 
     pub squares-back : o.negative ≡ true
         → record { before = s * s; own = o.magnitude * o.magnitude; behind = (o.magnitude + step) * (o.magnitude + step) }
@@ -61,8 +50,6 @@ module _ (o : Signed) (step : ℕ) (h : o.magnitude ≤ radius_most) (k : step �
 
     pub small-on : Small (record { before = (o.magnitude + step) * (o.magnitude + step); own = o.magnitude * o.magnitude; behind = s * s })
     small-on = record { before = small-back.behind; own = small-back.own; behind = small-back.before }
-
-pub ruleset squares-fit = (near_fits, own-fits, far-fits)
 
 -- ---- from the centre
 

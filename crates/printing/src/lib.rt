@@ -3,14 +3,13 @@
 
 ghost use Rattle.std.specs.Prelude.{◌≡◌, [], ◌∷◌, ◌+◌, ◌*◌, ◌≤◌, ◌<◌, length};
 ghost use Rattle.words.specs.Joined.{joined};
-ghost use Rattle.cutter.specs.List.{entry_at};
 ghost use Rattle.printing.specs.Put.{PutAt};
 ghost use Rattle.printing.specs.Line.{line};
 ghost use Rattle.printing.specs.Entries.{entry_line};
 
 use arrayvec::ArrayString;
 use decimal::push_number;
-use words::{i32_of, word_at};
+use reader::entry;
 
 // Puts a line for each of so many records of a map with so many inner columns, from `start` on; the place behind them.
 pub fn put_records(out: &mut [u8], start: usize, list: &[u8], columns: usize, count: usize) -> usize
@@ -63,13 +62,4 @@ pub fn line(numbers: &[i32]) -> ArrayString<60>
     }
     push_number(&mut text, i64::from(*last), "\n");
     text
-}
-
-// The x, y or z (j is 0, 1 or 2) of record n.
-fn entry(list: &[u8], n: usize, j: usize) -> i32
-    requires n_bound { (n < 1000000000) × (j < 3) }
-    requires n_in_bounds { 12 * n + 12 ≤ length list.now }
-    ensures { result ≡ entry_at list.now n j }
-{
-    i32_of(word_at(list, 12 * n + 4 * j))
 }

@@ -63,7 +63,7 @@ fn rounding(number: u64) -> Result<Mode, Refusal>
 }
 
 // The x, y or z (j is 0, 1 or 2) of the record at an index.
-fn entry(list: &[u8], index: usize, j: usize) -> i32
+pub fn entry(list: &[u8], index: usize, j: usize) -> i32
     requires { (12 * index + 12 ≤ length list.now) × (j < 3) }
     ensures { result ≡ entry_at list.now index j }
 {

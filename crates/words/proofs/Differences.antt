@@ -5,7 +5,6 @@ use mathlib.Core.Bool.{Bool, true, false}
 use Prim.Native.Nat.{ℕ, zero, suc, ◌+◌, ◌-◌, ◌*◌, ◌%◌, ◌≤◌, ◌<◌}
 use native.Mathlib.Omega.{arith}
 use borrow.Author.Tests.{lt-ltb, le-ltb}
-use lib.Dec.{leb}
 use lib.IntN.{ℤ, pos, negsuc, nat_abs, sub_ℕ, ◌+ℤ◌}
 pub use Rattle.numbers.proofs.Differences.{either, diff-le, diff-lt, diff-eq, diff-pos, neg-pos, diff-add, diff-sub, diff-abs, abs_neg, neg-sub, abs-add, leb-same}
 use Rattle.words.specs.Signed.{signed, word_of, with_sign, is_negative}
@@ -13,17 +12,6 @@ use Rattle.words.specs.Parts.{parts_of}
 use Rattle.words.specs.declared.Signed.{Signed}
 
 -- ---- sign and magnitude
-
--- what a comparison finds
-pub parts-le : (a b : ℕ) → b ≤ a → record { negative = false; magnitude = a - b } ≡ parts_of (sub_ℕ a b)
-unfolding parts_of
-parts-le a b h = sym (ap parts_of (diff-le a b h))
-
-pub parts-lt : (a b : ℕ) → a < b → record { negative = true; magnitude = b - a } ≡ parts_of (sub_ℕ a b)
-unfolding parts_of
-parts-lt a b h =
-    let e : suc (b - suc a) ≡ b - a = omega arith in
-    sym (ap parts_of (diff-lt a b h) ∙ cc)
 
 pub parts-pos : (n : ℕ) → record { negative = false; magnitude = n } ≡ parts_of (pos n)
 unfolding parts_of
@@ -144,15 +132,7 @@ module _ (h u : ℕ) (small : h < 2147483648) (hu : u < 4294967296) where
   within-biased l =
       either u 2147483648 (λ k. omega (arith, (abs-signed u hu).1 k)) (λ k. omega (arith, (abs-signed u hu).0 k))
 
-  biased-within : (u + h) % 4294967296 ≤ 2 * h → nat_abs (signed u) ≤ h
-  biased-within l =
-      either u 2147483648 (λ k. omega (arith, (abs-signed u hu).1 k)) (λ k. omega (arith, (abs-signed u hu).0 k))
-
-  -- a number is from −h to h where its biased word is at most 2h
-  pub signed-within : leb (nat_abs (signed u)) h ≡ leb ((u + h) % 4294967296) (2 * h)
-  signed-within = leb-same (nat_abs (signed u)) h ((u + h) % 4294967296) (2 * h) within-biased biased-within
-
-  -- it is then the biased word less h
+  -- a number from −h to h is its biased word less h
   pub signed-biased : (u + h) % 4294967296 ≤ 2 * h → signed u ≡ sub_ℕ ((u + h) % 4294967296) h
   unfolding signed
   signed-biased l =

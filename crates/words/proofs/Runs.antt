@@ -1,4 +1,4 @@
--- Runs of k bytes, one after the other: how long they are, what stands at a place of them, and a loop that puts one run a turn. Assumes nothing.
+-- Runs of k bytes, one after the other: how long they are, and what stands at a place of them. Assumes nothing.
 use mathlib.Core.Path.{◌≡◌, refl, sym, ap, ◌∙◌}
 use mathlib.Core.List.{List, [], ◌++◌, append-nil, append_assoc}
 use Prim.Native.Nat.{ℕ, zero, suc, ◌+◌, ◌*◌, ◌≤◌, ◌<◌}
@@ -6,7 +6,7 @@ use native.Mathlib.Nat.{add-zero, add-suc, add_assoc, zero-mul, suc-mul, mul-le-
 use native.Mathlib.Numerals.{add-one}
 use native.Mathlib.Omega.{arith}
 use native.Mathlib.Decide.{dec_lt}
-use lib.ListN.{length, get_or, length-append, take-append-drop, get_or-append}
+use lib.ListN.{length, get_or, length-append, get_or-append}
 use lib.Seq.{get_or-append-add, ext_get_or}
 use Rattle.words.specs.Joined.{joined}
 use Rattle.words.specs.Word.{word_at}
@@ -96,29 +96,6 @@ joined-apart f g k a b n e i h =
     let m : j < k = rw (a i) at l in
     sym (joined-get_or f k a n i j [] h m) ∙ ap (λ (x : List ℕ). get_or (x ++ []) (i * k + j) 0) e ∙ joined-get_or g k b n i j [] h m)
 
--- a loop has put i of n runs over l₀ from `at` on, and now has l
-pub record Written (f : ℕ → List ℕ) (at n : ℕ) (l₀ l : List ℕ) (i : ℕ) : Type 0 where
-  pub most : i ≤ n
-  pub long : length l ≡ length l₀
-  pub is : l ≡ splice at (joined f i) l₀
-
-pub written_none : (f : ℕ → List ℕ) (at n : ℕ) (l : List ℕ) → Written f at n l l 0
-unfolding joined splice
-written_none f at n l =
-    record { most = omega arith; long = refl; is = sym (simp (add-zero, append-nil, take-append-drop)) }
-
 -- what is left is enough for the next run
 pub room-left : (k i n m : ℕ) → i < n → n * k ≤ m → i * k + k ≤ m
 room-left k i n m h r = omega (arith, mul-le-mul_right k h, suc-mul i k)
-
-pub written-more : (f : ℕ → List ℕ) (k : ℕ) → ((i : ℕ) → length (f i) ≡ k) → (at n : ℕ) (l₀ l l₁ : List ℕ) (i : ℕ)
-    → at + n * k ≤ length l₀ → Written f at n l₀ l i → i < n
-    → l₁ ≡ splice (at + i * k) (f i) l → length l₁ ≡ length l → Written f at n l₀ l₁ (i + 1)
-written-more f k each at n l₀ l l₁ i h v more p long =
-    let r : i * k + k ≤ n * k = room-left k i n (n * k) more (omega arith) in
-    record { most = omega arith; long = long ∙ v.long; is = joined-more f k each at i l₀ l l₁ (omega arith) v.is p }
-
-pub written_all : (f : ℕ → List ℕ) (at n : ℕ) (l₀ l : List ℕ) (i : ℕ) → Written f at n l₀ l i → n ≤ i → l ≡ splice at (joined f n) l₀
-written_all f at n l₀ l i v h =
-    let e : i ≡ n = omega (arith, v.most) in
-    v.is ∙ ap (λ (j : ℕ). splice at (joined f j) l₀) e

@@ -1,12 +1,6 @@
 -- `nine::squares_of` meets its contract: the sign tells which side is near. Assumes nothing.
-use Rattle.nine.proofs.Distances.{squares-fit, squares-back, squares-on, small-back, small-on}
+use Rattle.nine.proofs.Distances.{squares-back, squares-on, small-back, small-on}
 use Rattle.nine.proofs.squares_of.Goals as goal
-
-pub overflow_mul-result : goal.overflow_mul-result
-overflow_mul-result c = search squares-fit
-
-pub overflow_mul-result-else-offset-3 : goal.overflow_mul-result-else-offset-3
-overflow_mul-result-else-offset-3 c = search squares-fit
 
 pub returns-then-offset : goal.returns-then-offset
 returns-then-offset c = (search squares-back, search small-back)

@@ -1,7 +1,5 @@
 -- `rows::lift_row` meets its contract: after n turns the row's first n records are lifted, and the others still stand. Assumes nothing.
-use Rattle.std.proofs.Common.{arith, ap, ◌∙◌, ◌≡◌, ◌-◌, ◌*◌, ℕ}
-use Rattle.words.specs.Splice.{splice}
-use Rattle.words.specs.Joined.{joined}
+use Rattle.std.proofs.Common.{arith}
 use Rattle.lift.specs.Record.{lifted_at}
 use Rattle.rows.specs.Row.{lifted_record}
 use Rattle.rows.proofs.Held.{reaches-here, lifted-there}
@@ -23,10 +21,3 @@ loop-n-preserved c =
     let row = c.args.row in
     lifts-more row.map.bytes.now row.map.trailer row.row c.args.out.now c.requires.room row.below c.loop-n.out c.lift_record.new.out c.loop-n.n c.first-first.result (lifted_at c.point.result) c.loop-n.invariant
     (omega (arith, c.loop-n-test.true, c.count-n-end.ensures)) c.first-first.ensures c.lift_record.ensures (lifted-there c.point.result row.map c.loop-n.n row.row c.point.ensures)
-
-pub returns : goal.returns
-returns c =
-    let row = c.args.row in
-    let e : c.loop-n.n ≡ row.map.trailer.width - 2 = omega (arith, c.loop-n-test.false, c.loop-n.auto.n-end, c.count-n-end.ensures) in
-    c.loop-n.invariant
-    ∙ ap (λ (n : ℕ). splice (row.row * (12 * (row.map.trailer.width - 2))) (joined (lifted_record row.map.bytes.now row.map.trailer row.row c.args.out.now) n) c.args.out.now) e

@@ -2,21 +2,13 @@
 use Rattle.std.proofs.Common.{arith, ◌-◌}
 use Rattle.kinds.specs.declared.Rule.TheVariants.{Touching}
 use Rattle.rows.specs.Row.{row_record}
-use Rattle.rows.proofs.Held.{prepared-here, touching-there, held_at}
+use Rattle.rows.proofs.Held.{touching-there}
 use Rattle.rows.proofs.RowRecords.{put_none, points-more, row_put}
 use Rattle.rows.proofs.put_row_at.Goals as goal
 
 pub loop-n-init : goal.loop-n-init
 loop-n-init c =
     put_none (row_record Touching c.args.mode c.args.row.map.bytes.now (c.args.row.map.trailer.width - 2) c.args.row.row) _ c.args.out.now
-
-pub put_point-requires-clause-prepared : goal.put_point-requires-clause-prepared
-put_point-requires-clause-prepared c =
-    let row = c.args.row in
-    let p = c.index-held-n.result in
-    prepared-here c.point.result row.map c.loop-n.n row.row c.point.ensures p
-    (held_at row.map.bytes.now row.map.trailer row.row (row.map.trailer.width - 2) c.loop-n.n c.args.held.now p c.requires.row_held
-    (omega (arith, c.loop-n-test.true, c.count-n-end.ensures)) c.index-held-n.is)
 
 pub loop-n-preserved : goal.loop-n-preserved
 loop-n-preserved c =
