@@ -15,7 +15,8 @@ use results::finite;
 use results::normal::normal;
 use special::{is_special, special};
 
-// The patterns of the least normal number and of infinity; those above the latter are NaNs and negative.
+// The patterns of the least normal number and of infinity; those above the latter are NaNs and negative. Of 32 bits, because the bits are
+// compared as they come, and the format's have 64.
 const LEAST_NORMAL: u32 = 0x80_0000;
 
 const INFINITY: u32 = 0x7F80_0000;
@@ -45,7 +46,8 @@ fn by(op: Op, mode: Mode, bits: u32) -> Rounded
     normal(op, mode, x)
 }
 
-// Whether the operand is a normal number and its result too, whatever the rounding.
+// Whether the operand is a normal number and its result too, whatever the rounding. Both ends are compared as in the definition of this
+// name; `contains` would be no plainer.
 #[inline(always)]
 fn is_plain(op: Op, bits: u32, exponent: u64) -> bool
     ensures { result ≡ is_plain op bits exponent }
@@ -58,7 +60,8 @@ fn is_plain(op: Op, bits: u32, exponent: u64) -> bool
 }
 
 // The answer to any pattern, the long way. The steps are those of `binary64::answer`, which reads lent tables and may be refused: of its
-// eight calls those of the raw answer and of the floor differ, so that one function over the format would be no plainer.
+// nine calls those of the raw answer and of the floor differ. One function over the format would want a trait with a refusal type and these
+// two for each format, which is more text than what is shared.
 #[cold]
 #[inline(never)]
 fn apart(op: Op, mode: Mode, bits: u32) -> Rounded

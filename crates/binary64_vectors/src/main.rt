@@ -12,16 +12,14 @@ ghost use Rattle.std.specs.Iterator.{at_most};
 
 use input::{digested, read_full};
 use lines::Reader;
-use plate::{Operation, Refusal, Rounding, Status};
+use plate::{Operation, Refusal, Rounding, Status, TABLES};
 use std::{io, mem};
 
 // The most bytes of text.
 const SIZE: usize = 1048576;
 
 // The numbers that a slice is lent of: the tables and one more.
-const NUMBERS: usize = 131073;
-
-const TABLES: usize = 131072;
+const NUMBERS: usize = TABLES + 1;
 
 fn main(rt: HostRuntime) -> io::Result<()> {
     let mut text = vec![in rt.alloc(); 0u8; SIZE]?;
@@ -228,7 +226,7 @@ fn put_sevens(numbers: &mut [u64]) {
     }
 }
 
-// A number that tells slices apart.
+// A number that tells slices apart; `list_vectors` folds bytes by the same step.
 fn digest(numbers: &[u64]) -> u64 {
     numbers.iter().fold(1, |sum, number| digested(sum, *number))
 }

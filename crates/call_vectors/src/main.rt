@@ -12,6 +12,7 @@ use plate::{Operation, Rounding, Status};
 use std::io::Result;
 
 fn main(rt: HostRuntime) -> Result<()> {
+    // A fixed buffer, because the program reads so many bytes of a longer input and no more.
     let mut text = [0u8; 262144];
     let n = read_full(&mut rt.stdin(), &mut text)?;
     answer_all(&rt, Calls(Reader::new(&text[..n])))
@@ -40,7 +41,7 @@ enum Call {
     },
 }
 
-// The calls of a text, line by line.
+// The calls of a text, line by line. `binary64_vectors` has its own, because its lines are others: they share the reader.
 #[derive(Drop)]
 struct Calls<'a>(Reader<'a>);
 

@@ -52,8 +52,10 @@ fn component_of(s: Signed) -> Component
 }
 
 impl Prepared {
-    // A place that holds no point yet.
-    pub fn none() -> Prepared {
+    // A place that holds no point yet, because memory is fixed and has to hold something.
+    pub fn none() -> Prepared
+        ensures { (result.x.magnitude ≡ 0) × (result.y.magnitude ≡ 0) × (result.scale ≡ 0) }
+    {
         let zero = Component {
             negative: false,
             magnitude: 0,
@@ -79,7 +81,8 @@ pub fn prepare(point: Point<'_>) -> Prepared
     }
 }
 
-// component × radius over the normal's length, rounded.
+// component × radius over the normal's length, rounded. Radius, squared length and scale go as three numbers, here and in `offset`, because
+// the definitions take them so, and a type of the three would be made for one point.
 fn offset_of(mode: Mode, component: Component, radius: u64, squared: u64, scale: u64) -> Signed
     requires { ComponentRange component.square radius squared × ScaleOf squared radius scale }
     ensures { (result ≡ offset_parts mode (signed_of component) radius squared) × (result.magnitude ≤ radius) }
@@ -123,6 +126,7 @@ fn centre(mode: Mode, point: Point<'_>, p: Prepared) -> Words
     }
 }
 
+// Puts the three words of a record. The lift puts its own likewise, because it has them as three words that it read.
 fn put_words(out: &mut [u8], at: usize, words: Words)
     requires { at + 12 ≤ length out.old }
     ensures { out.new ≡ splice at (words_bytes words) out.old }

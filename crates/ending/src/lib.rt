@@ -9,7 +9,8 @@ ghost use Rattle.trailer.specs.Bytes.{radius_bytes, rounding_bytes, front_bytes,
 use trailer::{Fields, Kind, layout_of, radius_size};
 use words::{put_half, put_word};
 
-// Puts the letters and the fields up to the step, which every kind has alike.
+// Puts the letters and the fields up to the step, which every kind has alike. Each part goes into the whole buffer by its place, because the
+// promise (`splice`) is about the whole buffer; a wide radius is put because the definition of a trailer has one.
 fn put_front(out: &mut [u8], at: usize, letters: [u8; 4], fields: Fields)
     requires { at + 14 ≤ length out.old }
     ensures { out.new ≡ splice at (front_bytes letters fields) out.old }

@@ -37,7 +37,7 @@ impl Multiplier {
         reached & !passed
     }
 
-    // Whether w is at most M.
+    // Whether w is at most M, of each operation by a test of its own.
     #[inline(always)]
     pub fn at_most(self, w: u64) -> bool
         requires { w ≤ 2 ^ 62 }
@@ -72,7 +72,7 @@ impl Multiplier {
     }
 }
 
-// Twice the half below w; 0 has none.
+// Twice the half below w; 0 has none. By cases as this is said; `(2 * w).saturating_sub(1)` would be no plainer.
 #[inline(always)]
 fn half_below(w: u64) -> u64
     requires { w ≤ 2 ^ 62 }

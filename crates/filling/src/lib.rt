@@ -12,12 +12,12 @@ ghost use Rattle.significand.specs.Call.{filling_asked, slice_after};
 use entries::{MOST, Multiplier};
 use kinds::{Op, Refusal};
 
-// The entries of one table, and of all four.
+// The entries of one table, and of all four. `raw64` has these numbers too, because neither crate stands above the other.
 const TABLE: usize = 32768;
 
 const LENGTH: usize = 131072;
 
-// 2^64: a product of two numbers of 64 bits has two words.
+// 2^64: a product of two numbers of 64 bits has two words. As in `entries`, because a name for all would be a public name of a number.
 const WORD: u128 = 0x1_0000_0000_0000_0000;
 
 // The least i.
@@ -62,7 +62,7 @@ fn put_entry(table: &mut [u64], n: usize)
     table[n] = settle(m, near);
 }
 
-// R of an i.
+// R of an i. Not step 1 of the raw unit, because that takes the index from a significand, and here there is none.
 fn factor(i: u64) -> u64
     requires { (2 ^ 15 ≤ i) × (i ≤ 2 ^ 16) }
     ensures { (result ≡ factor_of k64 i) × (2 ^ 15 ≤ result) × (result ≤ 2 ^ 16) }
@@ -70,7 +70,7 @@ fn factor(i: u64) -> u64
     0x8000_0000 / i
 }
 
-// The first two tables are the root's.
+// The first two tables are the root's. By cases and not by `Op::try_from`, because that may refuse, and here there is nothing to refuse.
 fn op_of(pair: usize) -> Op
     requires { pair < 2 }
     ensures { result ≡ op_of (pair + 2) }
@@ -101,7 +101,7 @@ fn down(m: Multiplier, from: u64) -> u64
     w
 }
 
-// Up to M.
+// Up to M, a search likewise.
 fn up(m: Multiplier, from: u64) -> u64
     requires { from ≤ multiplier_of k64 m.op m.factor m.parity }
     ensures { result ≡ multiplier_of k64 m.op m.factor m.parity }
@@ -132,7 +132,7 @@ fn start(table: &[u64], n: usize, r: u64) -> u64
     scaled(table[n - 2 * TABLE], r << 46)
 }
 
-// x × f / 2^63.
+// x × f / 2^63. Not the raw unit's last product, because that divides by 2^60 and asks for smaller numbers.
 fn scaled(x: u64, f: u64) -> u64 {
     ((x as u128 * f as u128 >> 63) % WORD) as u64
 }

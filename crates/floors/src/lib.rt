@@ -28,7 +28,8 @@ const WHOLE: u64 = 0x1_0000_0000_0000;
 // What is above the target, modulo 2^64, is below the half of that.
 const HALF: u64 = 0x8000_0000_0000_0000;
 
-// The floor of each operation's target.
+// The floor of each operation's target, by a test of its own. y, p and g are plain numbers with their facts in clauses, here and in `taken`,
+// because each test reads them once: a type of the three would be made for one call.
 pub fn floor_of(op: Op, y: u64, p: u64, g: u64) -> Floor
     requires { Operand k32 t32 op y p × (g < 2 ^ 32) × Between op k32 t32 y p g }
     ensures { Floored op y (target_of 23 op y p) result.quotient result.more }

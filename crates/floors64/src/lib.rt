@@ -13,7 +13,7 @@ ghost use Rattle.floors64.specs.Settled.{settled_of};
 use floors::Floor;
 use kinds::Op;
 
-// The floor of each operation's target.
+// The floor of each operation's target, by a test of its own; y, p and g are plain numbers, as in `floors` and for the same reason.
 pub fn floor_of(op: Op, y: u64, p: u64, g: u64) -> Floor
     requires { Operand k64 t64 op y p × Near op k64 t64 y p (bound_of op) g }
     ensures { Floored op y (target_of 52 op y p) result.quotient result.more }

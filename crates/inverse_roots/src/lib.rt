@@ -268,7 +268,7 @@ static INVERSE_ROOTS: [Row; 256] = [
     Row(128, 134217728), // 511
 ];
 
-// R, and M of the inverse root.
+// R, and M of the inverse root. A function for each root, because docs/PROMISES.md names both with their edits.
 pub fn row(key: u32) -> Row
     requires { (256 ≤ key) × (key < 512) }
     ensures { RowOf k32 InverseRoot key result }

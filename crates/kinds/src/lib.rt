@@ -110,7 +110,7 @@ impl Mode {
     }
 }
 
-// The bits of the flags.
+// The bits of the flags: numbers and no enum, because several are joined in one status.
 #[derive(Clone, Copy)]
 pub struct Flags;
 

@@ -73,7 +73,8 @@ impl<'a> Reader<'a> {
     }
 }
 
-// The value of a hexadecimal digit of either case, and 16 for any other byte.
+// The value of a hexadecimal digit of either case, and 16 for any other byte. No Option, because one comparison with the base then tells
+// digits of every base.
 fn digit(b: u8) -> u32
     ensures { result ≤ 16 }
 {

@@ -14,7 +14,7 @@ fn main(rt: HostRuntime) -> Result<()> {
         let Some(room) = read_word(&mut rt.stdin())? else {
             break;
         };
-        // One byte more than the longest map, and than the longest list.
+        // One byte more than the longest map, and than the longest list; fixed, because a longer frame ends the program.
         let mut map = [0u8; 16401];
         let mut out = [0u8; 46147];
         let (Some(map), Some(out)) = (map.get_mut(..length as usize), out.get_mut(..room as usize))
@@ -27,7 +27,8 @@ fn main(rt: HostRuntime) -> Result<()> {
     Ok(())
 }
 
-// The list call, and then the lifted one, in the roundings 0 to 3, and 4, which is none.
+// The list call, and then the lifted one, in the roundings 0 to 3, and 4, which is none. The two calls are named, because a table of both
+// would be a table of function pointers.
 fn run_all(rt: &impl Print, map: &[u8], out: &mut [u8]) -> Result<()> {
     for lifted in [false, true] {
         for rounding in 0..5 {

@@ -111,7 +111,8 @@ fn height_holds(bytes: &[u8; 4]) -> bool
     i32::from_le_bytes(*bytes).unsigned_abs() <= HEIGHT_MOST
 }
 
-// A height's word with a bias, so that heights are from 0 to 100,000.
+// A height's word with a bias, so that heights are from 0 to 100,000: the lift takes unsigned squares and differences that stop at 0, where
+// an i32 would be turned into both at each of nine heights.
 pub fn biased(u: u32) -> u32
     ensures { result ≡ (u + height_most) % 4294967296 }
 {

@@ -19,7 +19,8 @@ pub struct Neighbour {
 }
 
 // The floor q at the scale k stands for q × 2^(k − 3) units. Below k = 2 the result is subnormal and loses 2 − k bits. Where q is the
-// largest, a power of two, the carry into the exponent comes out right by itself.
+// largest, a power of two, the carry into the exponent comes out right by itself. The floor comes as two numbers, because its type belongs
+// to `floors`, which stands beside this crate.
 #[inline(always)]
 pub fn lower<F: Format>(q: u64, more: bool, k: u64) -> Neighbour
     requires { (q ≤ 2 ^ suc (suc F.format.fraction_bits)) × (k < 2 ^ suc F.format.exponent_bits) }

@@ -13,9 +13,10 @@ pub struct Scales {
 }
 
 // The exponent j of an operand raises a root's scale by half of it and lowers the others'. Twice a scale is not negative, so that halving
-// floors: −3 is twice −2 with parity 1. A root's parity is what is over; an inverse root's is what is added, and its halving rounds up.
+// floors: −3 is twice −2 with parity 1. A root's parity is what is over; an inverse root's is what is added, and its halving rounds up, by
+// the sum with what is added and not by `div_ceil`.
 // A magnitude is counted in units of 2^-u, and a fraction has m bits: at exponent 0 the reciprocal's scale is 2u − (m + 2) + 3, and twice
-// the roots' are u − 2(m + 1) + 6 and 3u − 2(m + 2) + 6.
+// the roots' are u − 2(m + 1) + 6 and 3u − 2(m + 2) + 6. Three cases, because each is a line of the definition.
 #[inline(always)]
 pub fn scales_of<F: Format>(op: Op, j: u64) -> Scales
     requires { j + 2 < 2 ^ F.format.exponent_bits + F.format.fraction_bits }

@@ -12,6 +12,7 @@ pub struct Rounded {
     pub flags: u8,
 }
 
+// A flag or none, chosen as the definitions choose it; `u8::from(on) * flag` would be no plainer.
 pub fn flag_if(on: bool, flag: u8) -> u8
     ensures { (result ≡ cond on flag 0) × (result ≤ flag) }
 {

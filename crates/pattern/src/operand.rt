@@ -16,7 +16,8 @@ pub struct Scaled {
 }
 
 // A subnormal operand is its own magnitude, whose highest bit is brought to the place of the leading one; a normal one has that bit, which
-// the pattern leaves out.
+// the pattern leaves out. The place of the highest bit is told by the zeros in front of it, and not by `ilog2`, because the laws of leading
+// bits are about those.
 pub fn scale<F: Format>(x: Parts) -> Scaled
     requires { Ordinary F.format x.unsigned × FieldsOf F.format x }
     ensures { Scaling F.format (magnitude_of F.format x.unsigned) result }

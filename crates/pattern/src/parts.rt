@@ -5,7 +5,8 @@ ghost use Rattle.pattern.specs.Parts.{PartsOf};
 
 use crate::format::Format;
 
-// The sign, 0 or 1, the exponent and the fraction; and the pattern without its sign.
+// The sign, 0 or 1, the exponent and the fraction; and the pattern without its sign. The sign is a number, because it is taken from the
+// pattern by a shift and put back by one. What holds of the parts stands in clauses, because it is said for a format: the parts have none.
 #[derive(Clone, Copy)]
 pub struct Parts {
     pub sign: u64,

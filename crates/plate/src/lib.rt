@@ -262,7 +262,8 @@ pub fn list(rounding: Rounding, map: &[u8], buffer: &mut [u8]) -> Result<usize, 
     list_by(Rule::Touching, rounding, map, buffer)
 }
 
-// The same with each centre lifted until the ball keeps off the nine heights round its point.
+// The same with each centre lifted until the ball keeps off the nine heights round its point. A call of its own and no parameter, because
+// users and programs in C call both by these names.
 pub fn lifted_list(rounding: Rounding, map: &[u8], buffer: &mut [u8]) -> Result<usize, Refusal>
     ensures { ListCall Lifted rounding.0 map.now buffer.old result buffer.new }
 {
@@ -276,7 +277,8 @@ fn list_by(rule: Rule, rounding: Rounding, map: &[u8], buffer: &mut [u8]) -> Res
 }
 
 // A record of a list, with what its trailer says: the rounding that made the list, unknown where the trailer has none, as in lists of
-// document 01; the sizes, columns and rows first; and the record's coordinates, in micrometres like step and radius.
+// document 01; the sizes, columns and rows first; and the record's coordinates, in micrometres like step and radius. Not the reader's
+// record, because users name a rounding by `Rounding`.
 #[derive(Clone, Copy, Debug, PartialEq, Eq)]
 pub struct ListRecord {
     pub rounding: Option<Rounding>,

@@ -178,6 +178,7 @@ fn record_for_c(refusal: u8, r: ListRecord) -> CRecordReply
     }
 }
 
+// By cases and not by `map_or`, because they stand so in the definition of this name.
 fn rounding_number(rounding: Option<Rounding>) -> u8
     ensures { result ≡ rounding_number rounding }
 {

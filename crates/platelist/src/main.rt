@@ -12,7 +12,7 @@ use std::process::ExitCode;
 use text::put_text;
 
 fn main(rt: HostRuntime) -> ExitCode {
-    // One byte more than the longest map, 4 × 64 × 64 + 16.
+    // One byte more than the longest map, 4 × 64 × 64 + 16; fixed, because the byte too many is what tells a map that is too long.
     let mut map = [0u8; 16401];
     let length = match read_input(&mut rt.stdin(), &mut map) {
         Ok(length) => length,
@@ -43,14 +43,15 @@ fn print<W: Write>(out: &mut W, map: &[u8]) -> Result<()>
     ensures ok { OnOk result (Appends (W.contents out.old) (W.contents out.new) (platelist_text map.now)) }
     ensures err { OnErr result ((n : ℕ) × Appends (W.contents out.old) (W.contents out.new) (take n (platelist_text map.now))) }
 {
-    // The longest list, 12 × 62 × 62 + 18.
+    // The longest list, 12 × 62 × 62 + 18; both are fixed, because `put_text` takes buffers of these lengths.
     let mut list = [0u8; 46146];
     let mut text = [0u8; 230688];
     let end = put_text(map, &mut list, &mut text);
     write_full(out, &text[..end])
 }
 
-// Writes all the bytes, at once unless the system takes fewer.
+// Writes all the bytes, at once unless the system takes fewer. Not std's `write_all`, because that does not say what is written before a
+// write fails.
 fn write_full<W: Write>(out: &mut W, bytes: &[u8]) -> Result<()>
     ensures ok { OnOk result (Appends (W.contents out.old) (W.contents out.new) bytes.now) }
     ensures err { OnErr result ((n : ℕ) × Appends (W.contents out.old) (W.contents out.new) (take n bytes.now)) }

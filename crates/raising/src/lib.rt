@@ -19,7 +19,8 @@ pub struct Squares {
 }
 
 // Whether the ball at z touches the height h, whose place is the root of `apart` away. One test of squares does for three: where z is not
-// above h, 0 is below the ball's square, and where the place is not below the ball, nothing is below 0.
+// above h, 0 is below the ball's square, and where the place is not below the ball, nothing is below 0. The four numbers go by themselves,
+// here and below, because z is another at each height, and the definition of meeting takes the rest so.
 fn touches(z: u64, h: u64, apart: u64, radius: u64) -> bool
     requires { (z < 2 ^ 31) × (radius < 2 ^ 22) }
     ensures { result ≡ ltb ((z - h) * (z - h)) (radius * radius - apart) }

@@ -50,7 +50,8 @@ pub fn is_lent(op: Op, entries: usize) -> bool
     op.is_reciprocal() | (entries == TABLES)
 }
 
-// Question 16 and the answer of an operation; the reciprocal has a text of its own, without the test of an entry.
+// Question 16 and the answer of an operation; the reciprocal has a text of its own, without the test of an entry. That the tables are lent
+// stands in clauses and not in a type, because it depends on the operation: the reciprocal takes any slice.
 #[inline(always)]
 pub fn answer(op: Op, y: u64, p: u64, table: &[u64]) -> Result<u64, Refusal>
     requires { Operand k64 t64 op y p × (T (is_lent k64 op (length table.now))) }
@@ -109,6 +110,7 @@ impl Steps for Raw64 {
         reduce(y, r)
     }
 
+    // As at k = 7, over the sums of this width.
     #[inline(always)]
     fn series(op: Op, d: Reduction) -> u64 {
         match op {
@@ -132,7 +134,8 @@ fn entry(op: Op, y: u64, p: u64, table: &[u64]) -> u64
     table[place_of(op, y, p)]
 }
 
-// Where it stands: root p 0, root p 1, inverse root p 0, inverse root p 1, in each i from 32,768 up.
+// Where it stands: root p 0, root p 1, inverse root p 0, inverse root p 1, in each i from 32,768 up. Worked out in the whole slice, and not
+// in four, because C lends one slice and a call reads one entry.
 fn place_of(op: Op, y: u64, p: u64) -> usize
     requires { Significand k64 t64 y × (p ≤ 1) }
     ensures { (result ≡ entry_place k64 op p (y / 2 ^ 37)) × (result < tables_length k64) }
@@ -140,6 +143,7 @@ fn place_of(op: Op, y: u64, p: u64) -> usize
     (tables_before(op) + p as usize) * ENTRIES + ((y >> 37) as usize - ENTRIES)
 }
 
+// How many tables stand before those of an operation, case by case as in the definition.
 fn tables_before(op: Op) -> usize
     ensures { (result ≡ tables_before op) × (result ≤ 2) }
 {

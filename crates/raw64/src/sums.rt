@@ -47,7 +47,7 @@ pub fn reciprocal_series(positive: bool, a: u64) -> u64
     whole as u64 + rest as u64 / 32768
 }
 
-// What the root takes away is divided rounding up.
+// What the root takes away is divided rounding up: by a sum, because `div_ceil` would look at the remainder besides.
 pub fn root_series(positive: bool, a: u64) -> u64
     requires { a < 2 ^ 45 }
     ensures { (result ≡ series_of k64 Root positive a) × (result < 2 ^ 61) }

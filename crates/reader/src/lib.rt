@@ -52,7 +52,8 @@ pub fn call(list: &[u8], index: usize) -> Result<Record, Refusal>
     })
 }
 
-// Question 2 of the number that a trailer states.
+// Question 2 of the number that a trailer states. By cases and not by `?`, because a number that is no byte gets the refusal of one that is
+// no rounding.
 fn rounding(number: u64) -> Result<Mode, Refusal>
     ensures { result ≡ rounding_asked number }
 {
@@ -62,7 +63,8 @@ fn rounding(number: u64) -> Result<Mode, Refusal>
     }
 }
 
-// The x, y or z (j is 0, 1 or 2) of the record at an index.
+// The x, y or z (j is 0, 1 or 2) of the record at an index, by its place and not by pieces of 12 bytes, because the definition (`entry_at`)
+// says the place.
 pub fn entry(list: &[u8], index: usize, j: usize) -> i32
     requires { (12 * index + 12 ≤ length list.now) × (j < 3) }
     ensures { result ≡ entry_at list.now index j }

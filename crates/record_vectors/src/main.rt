@@ -15,7 +15,7 @@ fn main(rt: HostRuntime) -> Result<()> {
         let Some(indexes) = read_word(&mut rt.stdin())? else {
             break;
         };
-        // One byte more than the longest list.
+        // One byte more than the longest list; fixed, because a longer frame ends the program.
         let mut list = [0u8; 46147];
         let Some(list) = list.get_mut(..length as usize) else {
             break;
@@ -46,6 +46,7 @@ fn run(rt: &impl Print, list: &[u8], index: usize) -> Result<()> {
     }
 }
 
+// By cases and not by `Display`, because the dash is this program's own.
 fn told(rt: &impl Print, rounding: Option<Rounding>) -> Result<()> {
     match rounding {
         None => print!(rt; "- "),

@@ -35,7 +35,7 @@ pub fn round<F: Format>(mode: Mode, sign: u64, n: Neighbour) -> Rounded
     }
 }
 
-// One of two numbers, without a branch.
+// One of two numbers, as the definition `taken_from` chooses; `pattern + u64::from(away)` would be no plainer.
 fn choose(first: bool, a: u64, b: u64) -> u64
     requires { b ≤ a }
     ensures { (result ≡ cond first a b) × (result ≤ a) }

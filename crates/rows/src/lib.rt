@@ -72,7 +72,8 @@ fn prepare_row(row: Row<'_>, held: &mut [Prepared])
     }
 }
 
-// The records of one row, behind those of the rows before it, by a rule.
+// The records of one row, behind those of the rows before it, by a rule. The prepared points go beside the row, because the row is what they
+// are prepared of and what is lifted without them; by cases, so that each rule is named.
 fn put_row_by(rule: Rule, mode: Mode, row: Row<'_>, held: &[Prepared], out: &mut [u8])
     requires room { 12 * count_of row.map.trailer.width row.map.trailer.depth ≤ length out.old }
     requires places { row.map.trailer.width - 2 ≤ length held.now }

@@ -44,7 +44,7 @@ pub fn reduce(y: u64, r: u64) -> Reduction
     }
 }
 
-// The sign s, +1 or −1.
+// The sign s, +1 or −1, chosen as the definition chooses it; `2 * i64::from(positive) - 1` would be no plainer.
 pub fn unit(positive: bool) -> i64
     ensures { result ≡ steps_unit positive }
 {
@@ -87,7 +87,8 @@ fn product(a: u64, b: u64) -> u64
     a * b
 }
 
-// Step 3, the series b of each operation: the printed sum, its terms gathered so that s enters once, and one floored division.
+// Step 3, the series b of each operation: the printed sum, its terms gathered so that s enters once, and one floored division. Three
+// functions, because docs/PROMISES.md lays each by its name beside its printed formula.
 pub fn reciprocal_series(positive: bool, a: u64) -> u64
     requires { a < 2 ^ 21 }
     ensures { (result ≡ series_of k32 Reciprocal positive a) × (result < 2 ^ 29) }

@@ -41,6 +41,7 @@ pub fn read_trailer(bytes: &[u8], kind: Kind) -> Result<Fields, Refusal>
     Ok(trailer)
 }
 
+// Both ends are compared as in the definition, here and below; `contains` would be no plainer.
 fn sizes_hold(width: usize, depth: usize) -> bool
     ensures { result ≡ is_sized width depth }
 {
@@ -61,7 +62,8 @@ pub fn is_whole(kind: Kind, before: usize, distance: u64, length: usize) -> bool
     (distance == before as u64) & (length == before + length_of(kind))
 }
 
-// How many records a list of these sizes has.
+// How many records a list of these sizes has. Two numbers and no struct, because callers have them in a trailer with other fields: a struct
+// of two would be made for each call and taken apart in it.
 pub fn count(width: usize, depth: usize) -> usize
     requires { Sizes width depth }
     ensures { (result ≡ count_of width depth) × (result ≤ 3844) }

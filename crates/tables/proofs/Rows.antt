@@ -13,6 +13,7 @@ use Rattle.significand.proofs.Numerals.{factor_test, factor-entry}
 use Rattle.tables.specs.declared.Row.{Row}
 use Rattle.tables.specs.Row.{index_at, parity_at, RowOf}
 use Rattle.tables.specs.Table.{every}
+use Rattle.tables.proofs.Match.{Asked, looked-up}
 
 both : (a b : Bool) → T (a && b) → T a × T b
 both true b t = (tt, t)
@@ -48,3 +49,8 @@ module _ (op : Op) (test : ℕ → ℕ → ℕ → Bool) (tells : (p i m : ℕ) 
       → RowOf k32 op key (slice_index_or rs (key - 256) (0, 0))
   row-looked-up key rs t low high =
       row_told key _ (entry row_test 256 (key - 256) key rs (0, 0) t (omega (arith, low)) (omega (arith, low, high)))
+
+  -- the same of a table that is a match: what it asks
+  pub row-asked : (key : ℕ) (vs : List Row) → 256 ≤ key → key < 256 + length vs → T (every row_test 256 vs)
+      → Asked (λ (r : Row). (Unit {0} × Unit {0}) × RowOf k32 op key r) key 256 vs (Unit {0})
+  row-asked key = looked-up (RowOf k32 op key) row_test 256 key (row_told key)

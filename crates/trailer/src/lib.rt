@@ -19,7 +19,8 @@ pub enum Kind {
 
 // What follows the letters: the distance from the trailer's first byte back to the first of what it describes; the sizes of the map;
 // step and radius in micrometres; and the rounding, which is 0 in a kind that has none. They have the widths in which they are worked
-// with, and not those of their bytes, because each would be widened at every use.
+// with, and not those of their bytes, because each would be widened at every use; and the rounding is 0 and no Option, because the
+// definition of a trailer's bytes has it so.
 #[derive(Clone, Copy)]
 pub struct Fields {
     pub distance: u64,

@@ -7,7 +7,8 @@ ghost use Rattle.words.specs.Splice.{splice};
 ghost use Rattle.words.specs.Signed.{signed, word_of, with_sign};
 ghost use Rattle.words.specs.Parts.{parts_of};
 
-// The number of the two bytes from `at` on, the lower first.
+// The number of the two bytes from `at` on, the lower first. A place in the whole bytes and no part of them, here and below, because the
+// definitions (`half_at`, `splice`) and the promises made of them say where in the whole something stands.
 pub fn half_at(s: &[u8], at: usize) -> u16
     requires { at + 2 ≤ length s.now }
     ensures { result ≡ half_at s.now at }
@@ -39,7 +40,8 @@ pub fn put<const N: usize>(out: &mut [u8], at: usize, bytes: [u8; N])
     out[at..at + N].copy_from_slice(&bytes);
 }
 
-// Puts the two bytes of a number over those from `at` on, the lower first.
+// Puts the two bytes of a number over those from `at` on, the lower first. The number is any u64, here and below, because the promise
+// speaks of every number: a u16 would ask more of callers.
 pub fn put_half(out: &mut [u8], at: usize, x: u64)
     requires { at + 2 ≤ length out.old }
     ensures { out.new ≡ splice at (half_bytes x) out.old }
@@ -87,7 +89,8 @@ pub fn parts_of(x: i32) -> Signed
     }
 }
 
-// The word of a word's number with a signed number added.
+// The word of a word's number with a signed number added. Not std's method of this name, because an i32 would be made of the sign and the
+// magnitude only to be added.
 pub fn wrapping_add_signed(u: u32, s: Signed) -> u32
     requires { s.magnitude < 2147483648 }
     ensures { result ≡ word_of (signed u +ℤ with_sign s.negative s.magnitude) }
