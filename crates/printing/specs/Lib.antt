@@ -1,3 +1,2 @@
-pub mod Put
 pub mod Line
 pub mod Entries

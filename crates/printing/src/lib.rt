@@ -1,14 +1,14 @@
-// The lines of a list as text, and text put into a lent buffer.
+// The lines of a list as text, and put into a lent buffer.
 #![tactic(auto)]
 
 ghost use Rattle.std.specs.Prelude.{◌≡◌, [], ◌∷◌, ◌+◌, ◌*◌, ◌≤◌, ◌<◌, length};
 ghost use Rattle.words.specs.Joined.{joined};
-ghost use Rattle.printing.specs.Put.{PutAt};
+ghost use Rattle.decimal.specs.Put.{PutAt};
 ghost use Rattle.printing.specs.Line.{line};
 ghost use Rattle.printing.specs.Entries.{entry_line};
 
 use arrayvec::ArrayString;
-use decimal::push_number;
+use decimal::{push_number, put};
 use reader::entry;
 
 // Puts a line for each of so many records of a map with so many inner columns, from `start` on; the place behind them.
@@ -23,16 +23,6 @@ pub fn put_records(out: &mut [u8], start: usize, list: &[u8], columns: usize, co
         at = put(out, at, record_line(list, columns, n).as_str());
     }
     at
-}
-
-// Puts a text from `at` on; the place behind it. The buffer is lent and there is no heap, so the place goes from text to text.
-pub fn put(out: &mut [u8], at: usize, text: &str) -> usize
-    requires { at + length text.now ≤ length out.old }
-    ensures { PutAt at (length text.now) text.now out.old result out.new }
-{
-    let end = at + text.len();
-    out[at..end].copy_from_slice(text.as_bytes());
-    end
 }
 
 // Column, row, x, y and z of record n.

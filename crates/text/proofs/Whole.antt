@@ -33,9 +33,9 @@ use Rattle.cutter.proofs.Counts.{count_most}
 use Rattle.cutter.proofs.Accepted.{always-room, map-asked, trailer-fits, sizes-of, held_of}
 use Rattle.cutter.proofs.Entries.{list_held}
 use Rattle.plate.specs.List.{ListCall}
-use Rattle.printing.specs.Put.{PutAt}
+use Rattle.decimal.specs.Put.{PutAt}
 use Rattle.printing.specs.Line.{line}
-use Rattle.printing.proofs.Puts.{put-behind, put-within}
+use Rattle.decimal.proofs.Putting.{put-behind, put-within}
 use Rattle.text.specs.Text.{map_most, list_most, text_most, sizes_line, record_line, list_text, refused_text, text_refusal, platelist_text}
 use Rattle.printing.specs.Entries.{entry_line}
 use Rattle.text.specs.Call.{TextCall}

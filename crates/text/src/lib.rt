@@ -8,16 +8,17 @@ ghost use Rattle.trailer.specs.Bytes.{InRange};
 ghost use Rattle.trailer.specs.declared.Kind.TheVariants.{Plt1};
 ghost use Rattle.cutter.specs.List.{count_of};
 ghost use Rattle.cutter.specs.Accepted.{Sizes};
-ghost use Rattle.printing.specs.Put.{PutAt};
+ghost use Rattle.decimal.specs.Put.{PutAt};
 ghost use Rattle.printing.specs.Line.{line};
 ghost use Rattle.printing.specs.Entries.{entry_line};
 ghost use Rattle.text.specs.Text.{list_most, text_most, refused_text};
 ghost use Rattle.text.specs.Call.{TextCall};
 
 use arrayvec::ArrayString;
+use decimal::put;
 use kinds::Refusal;
 use plate::Rounding;
-use printing::{line, put, put_records};
+use printing::{line, put_records};
 use trailer::{Fields, Kind, read_last};
 
 // Puts the text for these bytes at the front of `out`; its length. The list is made in `list`, which holds the longest one,

@@ -1,7 +1,7 @@
 -- After n turns the lines of the first n records are put. Assumes nothing.
 use Rattle.std.proofs.Common.{◌*◌}
 use Rattle.words.specs.Joined.{joined}
-use Rattle.printing.specs.Put.{PutAt}
+use Rattle.decimal.specs.Put.{PutAt}
 use Rattle.printing.specs.Entries.{entry_line}
 use Rattle.printing.proofs.put_records.Given as goal
 
