@@ -7,11 +7,11 @@
 // numbers of the filled tables and a 0 behind them, in which the number at the place, if there is one, is the entry for this call.
 #![tactic(auto)]
 
-ghost use Rattle.std.specs.Prelude.{◌≡◌, ◌≤◌, length, slice_index, slice_set};
+ghost use Rattle.std.specs.Prelude.{◌≡◌, ◌≤◌, ◌/◌, ◌%◌, length, slice_index, slice_set};
 ghost use Rattle.std.specs.Iterator.{at_most};
 
 use input::{digested, read_full};
-use lines::Reader;
+use lines::{Reader, hex};
 use plate::{Operation, Refusal, Rounding, Status, TABLES};
 use std::{io, mem};
 
@@ -22,12 +22,18 @@ const SIZE: usize = 1048576;
 const NUMBERS: usize = TABLES + 1;
 
 fn main(rt: HostRuntime) -> io::Result<()> {
-    let mut text = vec![in rt.alloc(); 0u8; SIZE]?;
-    let n = read_full(&mut rt.stdin(), &mut text)?;
-    let mut tables = vec![in rt.alloc(); 0u64; NUMBERS]?;
-    let mut numbers = vec![in rt.alloc(); 0u64; NUMBERS]?;
+    // Fixed buffers, here and below, because then there is no allocation that could fail.
+    let mut text = [0u8; SIZE];
+    answer_input(&rt, &mut text)
+}
+
+// By an array of known length, which the check need not count out.
+fn answer_input(rt: &HostRuntime, text: &mut [u8; SIZE]) -> io::Result<()> {
+    let n = read_full(&mut rt.stdin(), text)?;
+    let mut tables = [0u64; NUMBERS];
+    let mut numbers = [0u64; NUMBERS];
     answer_all(
-        &rt,
+        rt,
         Calls(Reader::new(&text[..n])),
         &mut tables,
         &mut numbers,
@@ -166,7 +172,10 @@ impl Call {
                     plate::raw64(operation, significand, parity, tables)
                 });
                 match reply {
-                    Ok(answer) => println!(rt; "0 {answer:016X}"),
+                    Ok(answer) => {
+                        let (high, low) = halves(answer);
+                        println!(rt; "0 {}{}", text_of(&hex(high)), text_of(&hex(low)))
+                    }
                     Err(refusal) => println!(rt; "{} 0000000000000000", refusal.number()),
                 }
             }
@@ -182,7 +191,10 @@ impl Call {
                 });
                 let flags = reply.status.flags;
                 match reply.answer {
-                    Ok(answer) => println!(rt; "0 {answer:016X} {flags}"),
+                    Ok(answer) => {
+                        let (high, low) = halves(answer);
+                        println!(rt; "0 {}{} {flags}", text_of(&hex(high)), text_of(&hex(low)))
+                    }
                     Err(refusal) => println!(rt; "{} 0000000000000000 {flags}", refusal.number()),
                 }
             }
@@ -229,4 +241,16 @@ fn put_sevens(numbers: &mut [u64]) {
 // A number that tells slices apart; `list_vectors` folds bytes by the same step.
 fn digest(numbers: &[u64]) -> u64 {
     numbers.iter().fold(1, |sum, number| digested(sum, *number))
+}
+
+// The upper and the lower half of a pattern.
+fn halves(x: u64) -> (u32, u32)
+    ensures { (result.0 ≡ x / 4294967296) × (result.1 ≡ x % 4294967296) }
+{
+    ((x / 4294967296) as u32, (x % 4294967296) as u32)
+}
+
+// Digits as text, to be printed with their line at once.
+fn text_of(digits: &[u8]) -> &str {
+    str::from_utf8(digits).unwrap_or("")
 }

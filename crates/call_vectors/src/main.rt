@@ -7,7 +7,7 @@ ghost use Rattle.std.specs.Prelude.{◌≤◌, length};
 ghost use Rattle.std.specs.Iterator.{at_most};
 
 use input::read_full;
-use lines::Reader;
+use lines::{Reader, hex};
 use plate::{Operation, Rounding, Status};
 use std::io::Result;
 
@@ -105,10 +105,15 @@ impl Call {
                 let reply = plate::binary32(operation, rounding, bits, status);
                 let flags = reply.status.flags;
                 match reply.answer {
-                    Ok(answer) => println!(rt; "0 {answer:08X} {flags}"),
+                    Ok(answer) => println!(rt; "0 {} {flags}", text_of(&hex(answer))),
                     Err(refusal) => println!(rt; "{} 00000000 {flags}", refusal.number()),
                 }
             }
         }
     }
+}
+
+// Digits as text, to be printed with their line at once.
+fn text_of(digits: &[u8]) -> &str {
+    str::from_utf8(digits).unwrap_or("")
 }

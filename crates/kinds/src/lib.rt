@@ -4,8 +4,8 @@
 
 ghost use Rattle.std.specs.Int.Bits.{bit_or};
 ghost use Rattle.std.specs.Prelude.{◌%◌, ◌≡◌};
-ghost use Rattle.kinds.specs.Operation.{is_reciprocal};
-ghost use Rattle.kinds.specs.Rounding.{number_of, away};
+ghost use Rattle.kinds.specs.Operation.{op_of, is_reciprocal};
+ghost use Rattle.kinds.specs.Rounding.{mode_of, number_of, away};
 ghost use Rattle.kinds.specs.Refusal.{number_of as refusal_number, operation_asked, rounding_asked};
 ghost use Rattle.kinds.specs.Guard.{place_of};
 
@@ -62,6 +62,17 @@ impl TryFrom<u8> for Op {
 }
 
 impl Op {
+    // The operation with this number, once question 1 is asked; it cannot fail, and of any other number it gives the last.
+    pub fn of(number: u8) -> Op
+        ensures { result ≡ op_of number }
+    {
+        match number {
+            1 => Op::Reciprocal,
+            2 => Op::Root,
+            _ => Op::InverseRoot,
+        }
+    }
+
     pub fn is_reciprocal(self) -> bool
         ensures { result ≡ is_reciprocal self }
     {
@@ -102,6 +113,18 @@ impl TryFrom<u8> for Mode {
 }
 
 impl Mode {
+    // The rounding with this number, once question 2 is asked, likewise.
+    pub fn of(number: u8) -> Mode
+        ensures { result ≡ mode_of number }
+    {
+        match number {
+            0 => Mode::Nearest,
+            1 => Mode::Up,
+            2 => Mode::Down,
+            _ => Mode::TowardZero,
+        }
+    }
+
     // The number of a rounding.
     pub fn number(self) -> u8
         ensures { result ≡ number_of self }

@@ -1,8 +1,10 @@
-// Numbers in lines of text, for programs that read vectors. A number is its digits, and one byte behind them separates it from the next.
+// Numbers in lines of text, for programs that read vectors, and a pattern's digits. A number is its digits, and one byte behind them separates
+// it from the next.
 #![tactic(auto)]
 
-ghost use Rattle.std.specs.Prelude.{◌≡◌, ◌≤◌, [], ◌∷◌, length, MatchOption};
+ghost use Rattle.std.specs.Prelude.{◌≡◌, ◌≤◌, [], ◌∷◌, min, length, MatchOption};
 ghost use Rattle.lines.specs.Passed.{Passed};
+ghost use Rattle.lines.specs.Hex.{hex_digit, hex_of};
 
 use std::marker::Model;
 
@@ -49,7 +51,7 @@ impl<'a> Reader<'a> {
     pub fn byte(&mut self) -> u8
         ensures { Passed self.old self.new }
     {
-        u8::try_from(self.number(10)).unwrap_or(u8::MAX)
+        byte(self.number(10).into())
     }
 
     // Takes a hexadecimal number, whose last 64 bits count.
@@ -73,10 +75,41 @@ impl<'a> Reader<'a> {
     }
 }
 
+// A number as a byte; one that is too large is 255. A function beside the reader's, because its promise is about every number.
+pub fn byte(x: u64) -> u8
+    ensures { result ≡ min x 255 }
+{
+    u8::try_from(x).unwrap_or(u8::MAX)
+}
+
 // The value of a hexadecimal digit of either case, and 16 for any other byte. No Option, because one comparison with the base then tells
 // digits of every base.
 fn digit(b: u8) -> u32
     ensures { result ≤ 16 }
 {
     char::from(b).to_digit(16).unwrap_or(16)
+}
+
+// The eight hexadecimal digits of a pattern. Not by std's `{:08X}`, because of digits made here the promise is a definition's.
+pub fn hex(x: u32) -> [u8; 8]
+    ensures { result ≡ hex_of x }
+{
+    [
+        hex_digit(x / 268435456),
+        hex_digit(x / 16777216),
+        hex_digit(x / 1048576),
+        hex_digit(x / 65536),
+        hex_digit(x / 4096),
+        hex_digit(x / 256),
+        hex_digit(x / 16),
+        hex_digit(x),
+    ]
+}
+
+// The last hexadecimal digit of a number, in upper case.
+fn hex_digit(x: u32) -> u8
+    ensures { result ≡ hex_digit x }
+{
+    let d = (x % 16) as u8;
+    if d < 10 { 48 + d } else { 55 + d }
 }

@@ -10,7 +10,7 @@ ghost use Rattle.kinds.specs.Refusal.{asked};
 ghost use Rattle.kinds.specs.declared.Refusal.TheVariants.{Room};
 ghost use Rattle.cutter.specs.Call.{heights_within, has_room, map_asked};
 ghost use Rattle.cutter.specs.Map.{Inner};
-ghost use Rattle.cutter.specs.Accepted.{Ready};
+ghost use Rattle.cutter.specs.Accepted.{Ready, Heights};
 
 use kinds::Refusal;
 use sizes::{is_whole, read_trailer, records_length};
@@ -70,7 +70,7 @@ impl<'a> Map<'a> {
         requires { i < self.trailer.width * self.trailer.depth }
         ensures { (sub_ℕ result height_most ≡ signed (word_at self.entry.bytes.now (4 * i))) × (result ≤ difference_most) }
     {
-        u64::from(biased(self.height_word(i)))
+        height_at(self.bytes, i, self.trailer.width * self.trailer.depth)
     }
 }
 
@@ -109,6 +109,17 @@ fn height_holds(bytes: &[u8; 4]) -> bool
     ensures { result ≡ leb (nat_abs (signed (word_at bytes.now 0))) height_most }
 {
     i32::from_le_bytes(*bytes).unsigned_abs() <= HEIGHT_MOST
+}
+
+// The height at place i with the bias, of bytes that hold so many heights: a function beside the map's, because it asks for heights alone and
+// for no trailer.
+#[inline(always)]
+pub fn height_at(map: &[u8], i: usize, count: usize) -> u64
+    requires i_lt_count { i < count }
+    requires heights { Heights map.now count }
+    ensures { (sub_ℕ result height_most ≡ signed (word_at map.now (4 * i))) × (result ≤ difference_most) }
+{
+    u64::from(biased(word_at(map, 4 * i)))
 }
 
 // A height's word with a bias, so that heights are from 0 to 100,000: the lift takes unsigned squares and differences that stop at 0, where
