@@ -97,6 +97,14 @@ trailed-of k number m h e =
       steps = steps-are t.step t.radius (sure _ a8.0);
     }
 
+-- so of the trailer as it was read
+module _ (k : Kind) (number : ℕ) (m : List ℕ) (n : ℕ) (h : 0 < number) (e : n ≡ trailer_refusal k number m) (z : n ≡ 0) where
+  pub ending-fits : length_of k ≤ length m
+  ending-fits = (trailed-of k number m h (sym e ∙ z)).fits
+
+  pub ending-sizes : (t : Fields) → t ≡ last_fields k m → Sizes t.width t.depth
+  ending-sizes t f = rw f (trailed-of k number m h (sym e ∙ z)).sizes
+
 -- and what answers them all "yes"
 pub trailer-yes : (k : Kind) (number : ℕ) (m : List ℕ) → bytes_least ≤ length m → ends_in k m ≡ true
     → is_sized (last_fields k m).width (last_fields k m).depth ≡ true → is_stepped (last_fields k m).step (last_fields k m).radius ≡ true

@@ -32,6 +32,9 @@ cast_signed-is u h =
 pub cast-kept : (u : ℕ) (z : ℤ) → u < 4294967296 → z ≡ to_z w32 u → to_z w32 (of_z w32 z) ≡ signed u
 cast-kept u z h e = rw (e, of_z-to_z w32 u (record { fits = h })) (cast_signed-is u h)
 
+pub signed_back : (u : ℕ) (z : ℤ) → u < 4294967296 → z ≡ signed u → to_z w32 (of_z w32 z) ≡ signed u
+signed_back u z h e = cast-kept u z h (e ∙ sym (cast_signed-is u h))
+
 pub parts-are : (x : ℤ) → record { negative = lt_z x (pos 0); magnitude = nat_abs x } ≡ parts_of x
 unfolding parts_of
 parts-are (pos n) = let e = le-ltb n 0 (omega arith) in cc
