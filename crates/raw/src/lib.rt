@@ -146,11 +146,16 @@ pub fn is_significand<W: Width>(y: u64) -> bool
     y >> (3 * W::K + W::T - 1) == 1
 }
 
-// Question 4.
+// Question 4. One comparison for each operation, because where both parities are compared the call branches on the parity, which nobody can
+// foretell.
 pub fn is_parity(op: Op, parity: u8) -> bool
     ensures { result ≡ is_parity op parity }
 {
-    (parity == 0) | ((parity == 1) & !op.is_reciprocal())
+    match op {
+        Op::Reciprocal => parity == 0,
+        Op::Root => parity <= 1,
+        Op::InverseRoot => parity <= 1,
+    }
 }
 
 // The answer of an operation at k = 7, each operation by a text of its own: which it is, is asked once.
